@@ -1,0 +1,20 @@
+use Prim.Native.Nat.{ℕ, _+_, _≤_, _<_, _*_, _-_}
+use mathlib.Core.Path.{_≡_, refl, ap, sym, _∙_}
+use borrow.Author.Needs.{needs}
+use native.Mathlib.Omega.{arith}
+use lib.ListN.{length, take, drop, getD}
+use borrow.Author.Tests.{eq-eqb, ne-eqb}
+use Rattle.cells.specs.Differ.{unlikeOf, differs}
+use Rattle.cells.proofs.unlike.Statement.{statement}
+use Rattle.cells.proofs.unlike.Tie as tie
+use Rattle.cells.proofs.unlike.Reads as reads
+use Rattle.cells.proofs.unlike.Lts as lts
+
+returns : tie.Need-returns
+returns c = (simp (eq-eqb _ _ (c .if1 .taken)), search needs)
+
+returns-2 : tie.Need-returns-2
+returns-2 c = (simp (ne-eqb _ _ (c .if1 .left)), search needs)
+
+pub unlike-spec : {M : Type 1} → statement M
+unlike-spec = tie.close (tie.spec returns returns-2)

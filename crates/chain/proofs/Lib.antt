@@ -1,0 +1,4 @@
+pub mod Lookup
+pub mod Base
+pub mod Tests
+pub mod Turns

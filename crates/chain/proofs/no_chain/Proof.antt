@@ -1,0 +1,17 @@
+use borrow.Author.Needs.{needs}
+use Rattle.chain.proofs.no_chain.Statement.{statement}
+use Rattle.chain.proofs.no_chain.Tie as tie
+use Rattle.chain.proofs.no_chain.Reads as reads
+use Rattle.chain.proofs.no_chain.Lts as lts
+use Rattle.chain.proofs.closed_place.Reads as closed-place-reads
+
+-- src/lib.rt:89:9
+closed-place-requires : tie.Need-closed-place-requires
+closed-place-requires c κs = search needs
+
+-- src/lib.rt:85:1
+returns : tie.Need-returns
+returns c = simp (c .closed-place .ensures)
+
+pub no-chain-spec : {M : Type 1} → statement M
+no-chain-spec = tie.close (tie.spec closed-place-requires returns)
