@@ -1,0 +1,42 @@
+-- A run over a slice: in two parts, past its end, and from byte i on. Assumes nothing.
+use Prim.Native.Nat.{ℕ, _+_, _-_, _<_, _≤_}
+use mathlib.Core.Path.{_≡_, refl, ap, sym, _∙_}
+use mathlib.Core.List.{List, [], _∷_, _++_}
+use native.Mathlib.Numerals.{add-one}
+use native.Mathlib.Omega.{arith}
+use borrow.Author.Tests.{ne-eqb}
+use lib.ListN.{length, getD, take, drop, drop-of-length-le, take-append-drop}
+use lib.Seq.{drop-cons, drop-drop}
+use Rattle.chain.specs.declared.Chain.{Chain}
+use Rattle.chain.specs.Paper.{more}
+use Rattle.machine.specs.Run.{Run, run, stepOf, onByte, runOf}
+
+-- feeding a and b is feeding a and then, where the run is open, b
+pub run-append : (a b : List ℕ) (r : Run) → runOf r (a ++ b) ≡ runOf (runOf r a) b
+unfolding runOf
+run-append [] b r = refl
+run-append (x ∷ a) b r = run-append a b (onByte r x)
+
+-- a run that is over stays as it is
+pub run-over : (bs : List ℕ) (r : Run) → (r .number ≡ more → ⊥) → runOf r bs ≡ r
+unfolding runOf
+run-over [] r h = refl
+run-over (b ∷ bs) r h = rw (ne-eqb (r .number) more h) (run-over bs r h)
+
+module _ (c : Chain) (m s : List ℕ) (i : ℕ) where
+  pub run-at : i < length s → runOf (run c m more) (drop i s) ≡ runOf (stepOf c m (getD s i 0)) (drop (i + 1) s)
+  unfolding runOf
+  run-at h = rw (add-one, drop-cons s i 0 h)
+
+  pub run-end : length s ≤ i → runOf (run c m more) (drop i s) ≡ run c m more
+  unfolding runOf
+  run-end h = rw (drop-of-length-le s h)
+
+  -- k bytes further, as a lent part has them
+  pub run-part : (k : ℕ) (r : Run) → runOf (run c m more) (take (i + k - i) (drop i s)) ≡ r → runOf (run c m more) (drop i s) ≡ runOf r (drop (i + k) s)
+  run-part k r e =
+      let z : i + k - i ≡ k = omega arith in
+      let f : runOf (run c m more) (take k (drop i s)) ≡ r = rw z at e in
+      ap (λ (x : List ℕ). runOf (run c m more) x) (sym (take-append-drop k (drop i s)))
+      ∙ run-append (take k (drop i s)) (drop k (drop i s)) (run c m more)
+      ∙ rw (f, drop-drop k i s)

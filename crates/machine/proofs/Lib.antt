@@ -1,0 +1,3 @@
+pub mod Feed
+pub mod Block
+pub mod Starts

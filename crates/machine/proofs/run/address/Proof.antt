@@ -1,0 +1,31 @@
+use mathlib.Core.Path.{_≡_, refl, sym, _∙_}
+use Rattle.chain.proofs.Tests.{tests}
+use Rattle.machine.specs.Run.{addressOf, memoryOf, registersOf, missedOf, Run, run, stepOf, runOf}
+use Rattle.chain.proofs.Base.{read-past, store-past}
+use native.Mathlib.Omega.{arith}
+use borrow.Author.Needs.{needs}
+use Rattle.machine.proofs.run.address.Statement.{statement}
+use Rattle.machine.proofs.run.address.Tie as tie
+use Rattle.machine.proofs.run.address.Reads as reads
+use Rattle.machine.proofs.run.address.Lts as lts
+use Rattle.chain.proofs.kinds.base_of.Reads as base-of-reads
+
+-- src/run.rt:34:5
+base-of-requires : tie.Need-base-of-requires
+base-of-requires c κs = search needs
+
+-- src/run.rt:34:29
+cast-result : tie.Need-cast-result
+cast-result c = search needs
+
+-- src/run.rt:34:5
+add-result : tie.Need-add-result
+add-result c = search needs
+
+-- src/run.rt:28:1
+returns : tie.Need-returns
+unfolding addressOf
+returns c = (simp ((c .before .base-of .ensures .0)), omega arith)
+
+pub address-spec : {M : Type 1} → statement M
+address-spec = tie.close (tie.spec base-of-requires cast-result add-result returns)

@@ -1,0 +1,25 @@
+use mathlib.Core.Path.{_≡_, refl, sym, _∙_}
+use Rattle.chain.proofs.Tests.{tests}
+use Rattle.machine.specs.Run.{addressOf, memoryOf, registersOf, missedOf, Run, run, stepOf, runOf}
+use Rattle.chain.proofs.Base.{read-past, store-past}
+use native.Mathlib.Omega.{arith}
+use borrow.Author.Needs.{needs}
+use Rattle.machine.proofs.run.cell.Statement.{statement}
+use Rattle.machine.proofs.run.cell.Tie as tie
+use Rattle.machine.proofs.run.cell.Reads as reads
+use Rattle.machine.proofs.run.cell.Lts as lts
+
+-- src/run.rt:54:25
+shared-slice-read-result : tie.Need-shared-slice-read-result
+shared-slice-read-result c = search needs
+
+-- src/run.rt:51:1
+returns : tie.Need-returns
+returns c = search needs
+
+-- src/run.rt:51:1
+returns-2 : tie.Need-returns-2
+returns-2 c = sym (read-past ((c .before .args .mem) .now) (c .before .args .at) (search needs))
+
+pub cell-spec : {M : Type 1} → statement M
+cell-spec = tie.close (tie.spec shared-slice-read-result returns returns-2)

@@ -1,0 +1,44 @@
+use mathlib.Core.Path.{_≡_, refl, sym, _∙_}
+use Rattle.chain.proofs.Tests.{tests}
+use Rattle.machine.specs.Run.{addressOf, memoryOf, registersOf, missedOf, Run, run, stepOf, runOf}
+use Rattle.chain.proofs.Base.{read-past, store-past}
+use native.Mathlib.Omega.{arith}
+use borrow.Author.Needs.{needs}
+use Rattle.machine.proofs.run.missed.Statement.{statement}
+use Rattle.machine.proofs.run.missed.Tie as tie
+use Rattle.machine.proofs.run.missed.Reads as reads
+use Rattle.machine.proofs.run.missed.Lts as lts
+use Rattle.machine.proofs.run.address.Reads as address-reads
+use Rattle.machine.proofs.run.cell.Reads as cell-reads
+use Rattle.machine.proofs.run.unlike.Reads as unlike-reads
+
+-- src/run.rt:43:37
+address-requires : tie.Need-address-requires
+address-requires c κs = search needs
+
+-- src/run.rt:43:27
+cell-requires : tie.Need-cell-requires
+cell-requires c κs = search needs
+
+-- src/run.rt:43:13
+unlike-requires : tie.Need-unlike-requires
+unlike-requires c κs = search needs
+
+-- src/run.rt:43:13
+returns : tie.Need-returns
+unfolding missedOf
+returns c = (c .unlike .ensures) ∙ simp ((c .before .cell .ensures), (c .before .before .address .ensures .0)) (search tests)
+
+-- src/run.rt:45:9
+returns-2 : tie.Need-returns-2
+unfolding missedOf
+returns-2 c = search tests
+
+-- src/run.rt:38:1
+returns-3 : tie.Need-returns-3
+unfolding missedOf
+returns-3 c = search tests
+
+pub missed-spec : {M : Type 1} → statement M
+missed-spec =
+    tie.close (tie.spec address-requires cell-requires unlike-requires returns returns-2 returns-3)

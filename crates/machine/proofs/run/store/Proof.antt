@@ -1,0 +1,48 @@
+use mathlib.Core.Path.{_≡_, refl, sym, _∙_}
+use Rattle.chain.proofs.Tests.{tests}
+use Rattle.machine.specs.Run.{addressOf, memoryOf, registersOf, missedOf, Run, run, stepOf, runOf}
+use Rattle.chain.proofs.Base.{read-past, store-past}
+use native.Mathlib.Omega.{arith}
+use borrow.Author.Needs.{needs}
+use Rattle.machine.proofs.run.store.Statement.{statement}
+use Rattle.machine.proofs.run.store.Tie as tie
+use Rattle.machine.proofs.run.store.Reads as reads
+use Rattle.machine.proofs.run.store.Lts as lts
+use Rattle.machine.proofs.run.address.Reads as address-reads
+
+-- src/run.rt:85:17
+address-requires : tie.Need-address-requires
+address-requires c κs = search needs
+
+-- src/run.rt:87:17
+slice-write-mem : tie.Need-slice-write-mem
+slice-write-mem c = search needs
+
+-- src/run.rt:79:1
+same-length : tie.Need-same-length
+same-length c = search needs
+
+-- src/run.rt:79:1
+returns : tie.Need-returns
+unfolding memoryOf
+returns c = simp ((c .before .address .ensures .0)) (search tests)
+
+-- src/run.rt:79:1
+returns-2 : tie.Need-returns-2
+unfolding memoryOf
+returns-2 c = search (tests, store-past ((c .before .before .before .before .before .before .before .before .args .mem) .now) (addressOf (c .before .before .before .before .before .before .before .before .args .c)) (c .before .before .before .before .before .before .before .before .args .b) (rw (c .before .address .ensures .0) at (c .if3 .left)))
+
+-- src/run.rt:79:1
+returns-3 : tie.Need-returns-3
+unfolding memoryOf
+returns-3 c = search tests
+
+-- src/run.rt:79:1
+returns-4 : tie.Need-returns-4
+unfolding memoryOf
+returns-4 c = search tests
+
+pub store-spec : {M : Type 1} → statement M
+store-spec =
+    tie.close
+    (tie.spec address-requires slice-write-mem same-length returns returns-2 returns-3 returns-4)

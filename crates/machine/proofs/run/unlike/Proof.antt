@@ -1,0 +1,18 @@
+use mathlib.Core.Path.{_≡_, refl, sym, _∙_}
+use Rattle.chain.proofs.Tests.{tests}
+use borrow.Author.Tests.{eq-eqb, ne-eqb}
+use Rattle.machine.proofs.run.unlike.Statement.{statement}
+use Rattle.machine.proofs.run.unlike.Tie as tie
+use Rattle.machine.proofs.run.unlike.Reads as reads
+use Rattle.machine.proofs.run.unlike.Lts as lts
+
+-- src/run.rt:57:1
+returns : tie.Need-returns
+returns c = simp (eq-eqb _ _ (c .if1 .taken))
+
+-- src/run.rt:57:1
+returns-2 : tie.Need-returns-2
+returns-2 c = simp (ne-eqb _ _ (c .if1 .left))
+
+pub unlike-spec : {M : Type 1} → statement M
+unlike-spec = tie.close (tie.spec returns returns-2)

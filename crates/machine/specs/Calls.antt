@@ -1,0 +1,81 @@
+-- Start, byte and slice: what each answers and leaves. Assumes nothing.
+use Prim.Native.Nat.{ℕ}
+use mathlib.Core.Bool.{not}
+use mathlib.Core.Path.{_≡_}
+use mathlib.Core.List.{List, [], _∷_}
+use lib.ListN.{length}
+use lib.Dec.{eqb}
+use Rattle.chain.specs.declared.Chain.{Chain}
+use Rattle.chain.specs.declared.Place.{Place}
+use Rattle.chain.specs.declared.Made.{Made}
+use Rattle.chain.specs.Paper.{at·preamble, opened, writing, checking, first-mode, two-preambles, done, bad-mode, run-open, more}
+use Rattle.chain.specs.Rules.{pick, Rule, _gives_, firstOf, from}
+use Rattle.chain.specs.Set.{with·place, closedPlace}
+use Rattle.chain.specs.State.{stateRules, openNumber}
+use Rattle.machine.specs.declared.Fed.{Fed}
+use Rattle.machine.specs.Run.{Run, run, runOf}
+
+-- start: 1, 17, 2, 3
+abbrev pub startRules : Chain → ℕ → ℕ → List Rule
+startRules c len mode =
+    stateRules c len
+    ((not (from first-mode two-preambles mode) gives bad-mode)
+    ∷ (eqb (c .place .running) opened gives run-open)
+    ∷ [])
+
+unfoldable pub startNumber : Chain → ℕ → ℕ → ℕ
+startNumber c len mode = firstOf (startRules c len mode) done
+
+-- a run awaits its first byte, both counts zero; check 0 writes, all else checks
+abbrev pub openedPlace : ℕ → ℕ → Place
+openedPlace mode check =
+    record {
+      running = opened;
+      mode = mode;
+      check = pick (eqb check writing) writing checking;
+      device = 0;
+      awaited = at·preamble;
+      left = 0;
+      control = 0;
+      start = 0;
+      end = 0;
+      next = 0;
+      taken = 0;
+      mismatches = 0;
+    }
+
+unfoldable pub startOf : Chain → ℕ → ℕ → ℕ → Made
+startOf c len mode check =
+    record {
+      chain = pick (eqb (startNumber c len mode) done) (with·place c (openedPlace mode check)) c;
+      number = startNumber c len mode;
+    }
+
+abbrev pub answered : Chain → ℕ → ℕ → ℕ → Fed
+answered c n taken mismatches = record { chain = c; answer = record { number = n; taken = taken; mismatches = mismatches } }
+
+-- the number and the run's counts so far; a run that is over leaves no place
+unfoldable pub fedOf : Run → Fed
+fedOf r =
+    answered (pick (eqb (r .number) more) (r .chain) (with·place (r .chain) closedPlace)) (r .number) (r .chain .place .taken)
+    (r .chain .place .mismatches)
+
+-- a slice feeds an open run; where 1, 17 or 4 is given the counts are 0 and 0 and all is as lent
+unfoldable pub sliceOf : Chain → List ℕ → List ℕ → Fed
+sliceOf c m s =
+    pick (eqb (openNumber c (length m)) done) (fedOf (runOf (run c m more) s)) (answered c (openNumber c (length m)) 0 0)
+
+unfoldable pub sliceMemory : Chain → List ℕ → List ℕ → List ℕ
+sliceMemory c m s = pick (eqb (openNumber c (length m)) done) (runOf (run c m more) s .memory) m
+
+-- what a reader may hold each call to: r is the answer, m′ the memory left
+pub record Start (c : Chain) (m : List ℕ) (mode check : ℕ) (r : Made) : Type 0 where
+  pub made : r ≡ startOf c (length m) mode check
+
+pub record Slice (c : Chain) (m s : List ℕ) (r : Fed) (m′ : List ℕ) : Type 0 where
+  pub fed : r ≡ sliceOf c m s
+  pub memory : m′ ≡ sliceMemory c m s
+
+-- a byte is a slice of one
+abbrev pub Byte : Chain → List ℕ → ℕ → Fed → List ℕ → Type 0
+Byte c m b r m′ = Slice c m (b ∷ []) r m′

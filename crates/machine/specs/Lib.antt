@@ -1,0 +1,4 @@
+pub mod Byte
+pub mod Run
+pub mod Calls
+pub mod Block

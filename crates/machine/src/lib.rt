@@ -1,0 +1,113 @@
+// The byte machine: a stream taken byte by byte or slice by slice into a chain, as a write or as a check.
+mod bulk;
+mod one_byte;
+mod run;
+
+use crate::run::feed;
+use crate::run::finish;
+use chain::Chain;
+use chain::Made;
+use chain::Place;
+use chain::paper::*;
+use chain::state::open_number;
+use chain::state::state_number;
+ghost use mathlib.Core.Path.{_≡_};
+ghost use lib.Dec.{eqb};
+ghost use Rattle.chain.specs.Paper.{writing, checking};
+ghost use Rattle.chain.specs.Rules.{pick};
+ghost use Rattle.machine.specs.Calls.{Start, Slice, Byte};
+
+// The number, and the run's bytes taken and mismatches so far.
+#[repr(C)]
+pub struct Answer {
+    pub number: u8,
+    pub taken: u32,
+    pub mismatches: u32,
+}
+
+#[repr(C)]
+pub struct Fed {
+    pub chain: Chain,
+    pub answer: Answer,
+}
+
+// What a run does: 0 writes, any other checks.
+fn task(check: u8) -> u8
+    ensures { λ r. ⌜ r ≡ pick (eqb check writing) writing checking ⌝ }
+{
+    if check == WRITING {
+        return WRITING;
+    }
+    CHECKING
+}
+
+// Opens a run in a mode; check 0 writes, any other checks.
+pub fn start(c: Chain, mem: &[u8], mode: u8, check: u8) -> Made
+    ensures { λ r. ⌜ Start c (now (mem .entry)) mode check r ⌝ }
+{
+    let n = state_number(c, mem.len());
+    if n != DONE {
+        return Made {
+            chain: c,
+            number: n,
+        };
+    }
+    if !((FIRST_MODE <= mode) & (mode <= TWO_PREAMBLES)) {
+        return Made {
+            chain: c,
+            number: BAD_MODE,
+        };
+    }
+    if c.place.running == OPENED {
+        return Made {
+            chain: c,
+            number: RUN_OPEN,
+        };
+    }
+    let mut d = c;
+    let t = task(check);
+    let p = Place {
+        running: OPENED,
+        mode: mode,
+        check: t,
+        device: 0,
+        awaited: AT_PREAMBLE,
+        left: 0,
+        control: 0,
+        start: 0,
+        end: 0,
+        next: 0,
+        taken: 0,
+        mismatches: 0,
+    };
+    d.place = p;
+    Made {
+        chain: d,
+        number: DONE,
+    }
+}
+
+// Feeds an open run and stops at its end; later bytes are not looked at.
+pub fn slice(c: Chain, mem: &mut [u8], s: &[u8]) -> Fed
+    ensures { λ r. ⌜ Slice c (now (mem .entry)) (now (s .entry)) r (now (mem .exit)) ⌝ }
+{
+    let n = open_number(c, mem.len());
+    if n == DONE {
+        let r = feed(c, mem, s);
+        return finish(r, mem);
+    }
+    let answer = Answer {
+        number: n,
+        taken: 0,
+        mismatches: 0,
+    };
+    Fed { chain: c, answer }
+}
+
+// One byte: a slice of one, so that the step has one place where it is called.
+pub fn byte(c: Chain, mem: &mut [u8], b: u8) -> Fed
+    ensures { λ r. ⌜ Byte c (now (mem .entry)) b r (now (mem .exit)) ⌝ }
+{
+    let one = [b];
+    slice(c, mem, &one)
+}

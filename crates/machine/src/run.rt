@@ -1,0 +1,178 @@
+// One byte of a run, and a slice of them.
+use crate::Answer;
+use crate::Fed;
+use crate::bulk::bulk;
+use crate::bulk::counting;
+use crate::bulk::span;
+use crate::one_byte::advance;
+use crate::one_byte::number;
+use chain::Chain;
+use chain::closed_place;
+use chain::eight::with8;
+use chain::kinds::base_of;
+use chain::paper::*;
+ghost use mathlib.Core.Path.{_≡_};
+ghost use Prim.Native.Nat.{_≤_, _<_};
+ghost use Rattle.chain.specs.Paper.{more};
+ghost use Rattle.machine.specs.Run.{addressOf, memoryOf, registersOf, missedOf, run, stepOf, runOf};
+ghost use Rattle.machine.specs.Calls.{fedOf};
+ghost use Rattle.cells.specs.Differ.{unlikeOf};
+ghost use lib.ListN.{getD};
+
+pub struct Stepped {
+    pub chain: Chain,
+    pub number: u8,
+}
+
+// The awaited cell.
+fn address(c: Chain) -> usize
+    ensures { λ r. ⌜ r ≡ addressOf c ⌝ }
+    ensures { λ r. ⌜ r ≤ 589815 ⌝ }
+{
+    let p = c.place;
+    let ks = c.kinds;
+    base_of(ks, p.device) + p.next as usize
+}
+
+// 1 where a check's data byte differs from its cell.
+fn missed(c: Chain, mem: &[u8], b: u8) -> u32
+    ensures { λ r. ⌜ r ≡ missedOf c (now (mem .entry)) b ⌝ }
+{
+    if c.place.awaited == AT_DATA {
+        if c.place.check == CHECKING {
+            return unlike(cell(mem, address(c)), b);
+        }
+        return 0;
+    }
+    0
+}
+
+// What a cell holds, 0 past the last.
+fn cell(mem: &[u8], at: usize) -> u8
+    ensures { λ r. ⌜ r ≡ getD (now (mem .entry)) at 0 ⌝ }
+{
+    if at < mem.len() { mem[at] } else { 0 }
+}
+
+fn unlike(a: u8, b: u8) -> u32
+    ensures { λ r. ⌜ r ≡ unlikeOf a b ⌝ }
+{
+    if a == b { 0 } else { 1 }
+}
+
+// In a write the control byte is loaded.
+fn registers_after(c: Chain, b: u8) -> [u8; 8]
+    ensures { λ r. ⌜ r ≡ registersOf c b ⌝ }
+{
+    let p = c.place;
+    let rs = c.registers;
+    if p.awaited == AT_CONTROL {
+        if p.check == WRITING {
+            return with8(rs, p.device, b);
+        }
+        return rs;
+    }
+    rs
+}
+
+// In a write a data byte is stored.
+fn store(c: Chain, mem: &mut [u8], b: u8)
+    ensures { λ _. ⌜ now (mem .exit) ≡ memoryOf c (now (mem .entry)) b ⌝ }
+{
+    let p = c.place;
+    if p.awaited == AT_DATA {
+        if p.check == WRITING {
+            let at = address(c);
+            if at < mem.len() {
+                mem[at] = b;
+            }
+        }
+    }
+}
+
+// One byte of an open run.
+fn step(c: Chain, mem: &mut [u8], b: u8) -> Stepped
+    ensures { λ r. ⌜ stepOf c (now (mem .entry)) b ≡ run (r .chain) (now (mem .exit)) (r .number) ⌝ }
+{
+    let n = number(c, b);
+    let p = c.place;
+    if n != MORE {
+        let mut q = counting(p, 1, 0);
+        q.running = CLOSED;
+        let mut d = c;
+        d.place = q;
+        return Stepped {
+            chain: d,
+            number: n,
+        };
+    }
+    let k = missed(c, mem, b);
+    let q = advance(counting(p, 1, k), b);
+    let rs = registers_after(c, b);
+    store(c, mem, b);
+    let ks = c.kinds;
+    let d = Chain {
+        count: c.count,
+        kinds: ks,
+        registers: rs,
+        place: q,
+    };
+    Stepped {
+        chain: d,
+        number: MORE,
+    }
+}
+
+// Bytes of an open run, up to its end. Data bytes are taken as one block where it lies inside memory, as it does in every
+// sound state; all others, and any block that does not, go byte by byte. The step is called here alone, so that it is
+// compiled into the loop.
+pub fn feed(c: Chain, mem: &mut [u8], s: &[u8]) -> Stepped
+    ensures { λ r. ⌜ runOf (run c (now (mem .entry)) more) (now (s .entry)) ≡ run (r .chain) (now (mem .exit)) (r .number) ⌝ }
+{
+    let n = s.len();
+    let mut d = c;
+    let mut i: usize = 0;
+    while i < n {
+        if d.place.awaited == AT_DATA {
+            let at = address(d);
+            let p = d.place;
+            let k = span(p, at, mem.len(), n - i);
+            if 0 < k {
+                let e = i + k;
+                let f = bulk(d, mem, at, &s[i..e]);
+                d = f;
+                i = e;
+                continue;
+            }
+        }
+        let b = s[i];
+        i += 1;
+        let r = step(d, mem, b);
+        if r.number != MORE {
+            return r;
+        }
+        d = r.chain;
+    }
+    Stepped {
+        chain: d,
+        number: MORE,
+    }
+}
+
+// The answer; a run that is over leaves no place.
+pub fn finish(r: Stepped, mem: &[u8]) -> Fed
+    ensures { λ f. ⌜ f ≡ fedOf (run (r .chain) (now (mem .entry)) (r .number)) ⌝ }
+{
+    let mut d = r.chain;
+    let answer = Answer {
+        number: r.number,
+        taken: r.chain.place.taken,
+        mismatches: r.chain.place.mismatches,
+    };
+    if r.number == MORE {
+        return Fed { chain: d, answer };
+    }
+    let none = closed_place();
+    d.place = none;
+    Fed { chain: d, answer }
+}
