@@ -1,3 +1,9 @@
 pub mod Feed
 pub mod Block
 pub mod Starts
+pub mod Only
+pub mod Frame
+pub mod Kept
+pub mod Taken
+pub mod Stores
+pub mod Blind

@@ -87,11 +87,10 @@ passedOf p n =
     (pick (ltb 1 (p .left)) (with·awaited (with·left (noWindow p) (p .left - 1)) at·null)
     (with·awaited (with·left (noWindow p) 0) at·check))
 
--- where a run goes on after the byte b
-unfoldable pub advanceOf : Place → ℕ → Place
-advanceOf p b =
-    rowOf (p .awaited)
-    ((at·preamble ⇒ with·awaited p (pick (eqb (p .mode) two-preambles) at·second at·control))
+-- where a run goes on after the byte b, by the awaited byte
+abbrev pub advanceRows : Place → ℕ → List Row
+advanceRows p b =
+    (at·preamble ⇒ with·awaited p (pick (eqb (p .mode) two-preambles) at·second at·control))
     ∷ (at·second ⇒ with·awaited p at·control)
     ∷ (at·control ⇒ with·awaited (with·control p b) at·address)
     ∷ (at·address ⇒ with·awaited p at·address2)
@@ -105,5 +104,7 @@ advanceOf p b =
     ∷ (at·end-low ⇒ with·awaited (with·next (with·end p (withLow (p .end) b)) (p .start)) at·data)
     ∷ (at·data ⇒ passedOf p 1)
     ∷ (at·check ⇒ with·awaited (with·control (with·device p (nextDevice p)) 0) at·control)
-    ∷ [])
-    p
+    ∷ []
+
+unfoldable pub advanceOf : Place → ℕ → Place
+advanceOf p b = rowOf (p .awaited) (advanceRows p b) p

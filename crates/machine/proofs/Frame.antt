@@ -1,0 +1,50 @@
+-- What a byte leaves of the place: running, mode, check and the counts are not the advance's. Assumes nothing.
+use Prim.Native.Nat.{ℕ, _+_, _-_}
+use mathlib.Core.Bool.{Bool, true, false}
+use mathlib.Core.Path.{_≡_, refl}
+use mathlib.Core.List.{List, [], _∷_}
+use lib.Dec.{eqb, ltb, leb}
+use Rattle.chain.specs.declared.Place.{Place}
+use Rattle.chain.specs.Paper.{no-windows, at·null, at·check}
+use Rattle.chain.specs.Set.{with·awaited, with·left, with·next}
+use Rattle.chain.specs.Rules.{pick}
+use Rattle.machine.specs.Byte.{Row, _⇒_, rowOf, noWindow, passedOf, advanceRows, advanceOf}
+
+pub record Frame (p q : Place) : Type 0 where
+  pub running : q .running ≡ p .running
+  pub mode : q .mode ≡ p .mode
+  pub check : q .check ≡ p .check
+  pub taken : q .taken ≡ p .taken
+  pub mismatches : q .mismatches ≡ p .mismatches
+
+-- every field is the same by computation
+framed : {p q : Place} → q .running ≡ p .running → q .mode ≡ p .mode → q .check ≡ p .check → q .taken ≡ p .taken
+    → q .mismatches ≡ p .mismatches → Frame p q
+framed a b c d e = record { running = a; mode = b; check = c; taken = d; mismatches = e }
+
+frame-pick : (p : Place) (t : Bool) (x y : Place) → Frame p x → Frame p y → Frame p (pick t x y)
+frame-pick p true x y f g = f
+frame-pick p false x y f g = g
+
+abbrev Frames : Place → List Row → Type 0
+Frames p [] = Unit {0}
+Frames p ((n ⇒ q) ∷ rows) = Frame p q × Frames p rows
+
+frame-rows : (p : Place) (a : ℕ) (rows : List Row) → Frames p rows → Frame p (rowOf a rows p)
+frame-rows p a [] f = framed refl refl refl refl refl
+frame-rows p a ((n ⇒ q) ∷ rows) f = frame-pick p (eqb a n) q (rowOf a rows p) (f .0) (frame-rows p a rows (f .1))
+
+frame-passed : (p : Place) (n : ℕ) → Frame p (passedOf p n)
+unfolding passedOf
+frame-passed p n =
+    frame-pick p (leb (p .next + n) (p .end)) (with·next p (p .next + n))
+    (pick (ltb 1 (p .left)) (with·awaited (with·left (noWindow p) (p .left - 1)) at·null) (with·awaited (with·left (noWindow p) 0) at·check))
+    (framed refl refl refl refl refl)
+    (frame-pick p (ltb 1 (p .left)) (with·awaited (with·left (noWindow p) (p .left - 1)) at·null) (with·awaited (with·left (noWindow p) 0) at·check)
+    (framed refl refl refl refl refl)
+    (framed refl refl refl refl refl))
+
+pub advance-frame : (p : Place) (b : ℕ) → Frame p (advanceOf p b)
+unfolding advanceOf
+advance-frame p b = frame-rows p (p .awaited) (advanceRows p b) 
+    (framed refl refl refl refl refl, (framed refl refl refl refl refl, (framed refl refl refl refl refl, (framed refl refl refl refl refl, (framed refl refl refl refl refl, (framed refl refl refl refl refl, (frame-pick p (eqb b no-windows) (with·awaited p at·check) (with·awaited (with·left p (255 - b)) at·null) (framed refl refl refl refl refl) (framed refl refl refl refl refl), (framed refl refl refl refl refl, (framed refl refl refl refl refl, (framed refl refl refl refl refl, (framed refl refl refl refl refl, (framed refl refl refl refl refl, (frame-passed p 1, (framed refl refl refl refl refl, tt))))))))))))))
