@@ -73,6 +73,7 @@ passed-add p n k l =
   where
     later : (a n : ℕ) → a + suc n ≡ a + 1 + n
     later a n = omega arith
+
     apart : (a k l : ℕ) → a + (k + l) ≡ a + k + l
     apart a k l = omega arith
 
@@ -167,7 +168,7 @@ module _ (check : ℕ) (m bs : List ℕ) (i : ℕ) (h : i + length bs ≤ length
   lay-write ys w e =
       let z : i + length bs - i ≡ length bs = omega arith in
       let l : length (take (i + length bs - i) (drop i m)) ≡ length bs =
-          rw z (length-take-le (length bs) (drop i m) (omega (arith, length-drop i m))) in
+      rw z (length-take-le (length bs) (drop i m) (omega (arith, length-drop i m))) in
       (rw w, rw (w, e, sets-whole bs (take (i + length bs - i) (drop i m)) l) (put-sets m bs i h))
 
 -- ---- present cells, fed back: nothing changes and nothing is missed

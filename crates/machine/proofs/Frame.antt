@@ -46,5 +46,5 @@ frame-passed p n =
 
 pub advance-frame : (p : Place) (b : ℕ) → Frame p (advanceOf p b)
 unfolding advanceOf
-advance-frame p b = frame-rows p (p .awaited) (advanceRows p b) 
+advance-frame p b = frame-rows p (p .awaited) (advanceRows p b)
     (framed refl refl refl refl refl, (framed refl refl refl refl refl, (framed refl refl refl refl refl, (framed refl refl refl refl refl, (framed refl refl refl refl refl, (framed refl refl refl refl refl, (frame-pick p (eqb b no-windows) (with·awaited p at·check) (with·awaited (with·left p (255 - b)) at·null) (framed refl refl refl refl refl) (framed refl refl refl refl refl), (framed refl refl refl refl refl, (framed refl refl refl refl refl, (framed refl refl refl refl refl, (framed refl refl refl refl refl, (framed refl refl refl refl refl, (frame-passed p 1, (framed refl refl refl refl refl, tt))))))))))))))

@@ -7,3 +7,4 @@ pub mod Kept
 pub mod Taken
 pub mod Stores
 pub mod Blind
+pub mod Cases

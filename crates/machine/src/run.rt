@@ -79,9 +79,8 @@ fn registers_after(c: Chain, b: u8) -> [u8; 8]
 fn store(c: Chain, mem: &mut [u8], b: u8)
     ensures { λ _. ⌜ now (mem .exit) ≡ memoryOf c (now (mem .entry)) b ⌝ }
 {
-    let p = c.place;
-    if p.awaited == AT_DATA {
-        if p.check == WRITING {
+    if c.place.awaited == AT_DATA {
+        if c.place.check == WRITING {
             let at = address(c);
             if at < mem.len() {
                 mem[at] = b;

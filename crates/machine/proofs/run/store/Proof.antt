@@ -30,7 +30,7 @@ returns c = simp ((c .before .address .ensures .0)) (search tests)
 -- src/run.rt:79:1
 returns-2 : tie.Need-returns-2
 unfolding memoryOf
-returns-2 c = search (tests, store-past ((c .before .before .before .before .before .before .before .before .args .mem) .now) (addressOf (c .before .before .before .before .before .before .before .before .args .c)) (c .before .before .before .before .before .before .before .before .args .b) (rw (c .before .address .ensures .0) at (c .if3 .left)))
+returns-2 c = search (tests, store-past ((c .before .before .before .before .before .before .before .args .mem) .now) (addressOf (c .before .before .before .before .before .before .before .args .c)) (c .before .before .before .before .before .before .before .args .b) (rw (c .before .address .ensures .0) at (c .if3 .left)))
 
 -- src/run.rt:79:1
 returns-3 : tie.Need-returns-3

@@ -1,0 +1,53 @@
+-- `hunt::hunt` meets its contract: a law for each of its three ways to answer. Assumes nothing.
+use borrow.Author.Needs.{needs}
+use native.Mathlib.Omega.{arith}
+use Rattle.hunt.proofs.Answers.{found-in, hunt-none, hunt-short, hunt-written}
+use Rattle.hunt.proofs.hunt.Statement.{statement}
+use Rattle.hunt.proofs.hunt.Tie as tie
+use Rattle.hunt.proofs.hunt.Reads as reads
+use Rattle.hunt.proofs.hunt.Lts as lts
+use Rattle.hunt.proofs.fill.Reads as fill-reads
+use Rattle.hunt.proofs.find.Reads as find-reads
+
+find-requires : tie.Need-find-requires
+find-requires c κs = search needs
+
+returns : tie.Need-returns
+returns c =
+    let a = c .before .before .before .before .args in
+    let f = c .before .find in
+    hunt-none (a .s .now) (a .out .now) (f .result) (f .ensures .0) (omega arith) (omega arith)
+
+add-n : tie.Need-add-n
+add-n c = search needs
+
+sub-n : tie.Need-sub-n
+sub-n c =
+    let f = c .before .find in
+    omega (arith, found-in (c .before .before .before .before .args .s .now) (f .result) (f .ensures .0) (omega arith))
+
+returns-2 : tie.Need-returns-2
+returns-2 c =
+    let a = c .before .before .before .before .before .args in
+    let f = c .before .before .find in
+    hunt-short (a .s .now) (a .out .now) (f .result) (f .ensures .0) (omega arith) (omega arith)
+
+fill-requires : tie.Need-fill-requires
+fill-requires c κs =
+    let f = c .before .before .before .find in
+    let fits = found-in (c .before .before .before .before .before .before .args .s .now) (f .result) (f .ensures .0) (omega arith) in
+    (omega arith, omega arith, omega arith)
+
+same-length : tie.Need-same-length
+same-length c = search needs
+
+returns-3 : tie.Need-returns-3
+returns-3 c =
+    let a = c .before .before .before .before .before .before .before .before .before .args in
+    let f = c .before .before .before .before .before .before .find in
+    hunt-written (a .s .now) (a .out .now) (f .result) (f .ensures .0) (omega arith) _ (omega arith) (c .before .before .fill .ensures)
+
+pub hunt-spec : {M : Type 1} → statement M
+hunt-spec =
+    tie.close
+    (tie.spec find-requires returns add-n sub-n returns-2 fill-requires same-length returns-3)

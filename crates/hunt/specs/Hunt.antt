@@ -1,0 +1,58 @@
+-- The serial bit hunt: where the preamble begins, the bytes from there on, and what the call answers and leaves. Assumes nothing.
+use Prim.Native.Nat.{ℕ, zero, suc, _+_, _*_}
+use mathlib.Core.Bool.{Bool, _&&_}
+use mathlib.Core.Path.{_≡_}
+use mathlib.Core.List.{List, [], _∷_, _++_}
+use lib.ListN.{length, drop}
+use lib.Dec.{eqb, ltb, leb}
+use Rattle.chain.specs.Paper.{preamble, done, no-preamble, too-short}
+use Rattle.chain.specs.Rules.{pick, Rule, _gives_, firstOf}
+use Rattle.hunt.specs.declared.Hunted.{Hunted}
+use Rattle.hunt.specs.Bits.{byteAt, bytesFrom, wholeFrom}
+
+-- eight bits of the slice stand at p and make the preamble
+unfoldable pub beginsAt : List ℕ → ℕ → Bool
+beginsAt s p = leb (p + 8) (8 * length s) && eqb (byteAt s p) preamble
+
+-- the first of the n positions from p on where they do, or p + n where there is none
+unfoldable pub firstFrom : List ℕ → ℕ → ℕ → ℕ
+firstFrom s zero p = p
+firstFrom s (suc n) p = pick (beginsAt s p) p (firstFrom s n (p + 1))
+
+-- the hunt takes the positions 0 to 64; this one says that there is none
+abbrev pub nowhere : ℕ
+nowhere = 65
+
+-- the position p, 0 to 64, or nowhere
+unfoldable pub foundAt : List ℕ → ℕ
+foundAt s = firstFrom s nowhere 0
+
+-- the whole bytes that start at p
+unfoldable pub huntedBytes : List ℕ → List ℕ
+huntedBytes s = bytesFrom s (foundAt s) (wholeFrom s (foundAt s))
+
+-- 5, then 15: room is the length of the output
+abbrev pub huntRules : List ℕ → ℕ → List Rule
+huntRules s room =
+    (eqb (foundAt s) nowhere gives no-preamble)
+    ∷ (ltb room (length (huntedBytes s)) gives too-short)
+    ∷ []
+
+unfoldable pub huntNumber : List ℕ → ℕ → ℕ
+huntNumber s room = firstOf (huntRules s room) done
+
+unfoldable pub huntOf : List ℕ → ℕ → Hunted
+huntOf s room =
+    record {
+      number = huntNumber s room;
+      length = pick (eqb (huntNumber s room) done) (length (huntedBytes s)) 0;
+    }
+
+-- only the front part is written, and nothing where the number is not 0
+unfoldable pub huntOut : List ℕ → List ℕ → List ℕ
+huntOut s out = pick (eqb (huntNumber s (length out)) done) (huntedBytes s ++ drop (length (huntedBytes s)) out) out
+
+-- what a reader may hold the hunt to: r is the answer, out′ the output left
+pub record Hunt (s out : List ℕ) (r : Hunted) (out′ : List ℕ) : Type 0 where
+  pub answer : r ≡ huntOf s (length out)
+  pub output : out′ ≡ huntOut s out
