@@ -31,17 +31,17 @@ step-taken c m b =
 
 -- a run's first byte: looked at where the run is open, not looked at where it is over
 module _ (r : Run) (b : ℕ) (bs : List ℕ) where
-  first-on : eqb (r .number) more ≡ true → runOf r (b ∷ bs) ≡ runOf (stepOf (r .chain) (r .memory) b) bs
+  pub first-on : eqb (r .number) more ≡ true → runOf r (b ∷ bs) ≡ runOf (stepOf (r .chain) (r .memory) b) bs
   unfolding runOf
   first-on e = ap (λ (q : Bool). runOf (pick q (stepOf (r .chain) (r .memory) b) r) bs) e
 
-  first-off : eqb (r .number) more ≡ false → runOf r (b ∷ bs) ≡ r
+  pub first-off : eqb (r .number) more ≡ false → runOf r (b ∷ bs) ≡ r
   first-off e = run-over (b ∷ bs) r (eqb-false (r .number) more e)
 
-  looked-on : eqb (r .number) more ≡ true → looked r (b ∷ bs) ≡ suc (looked (stepOf (r .chain) (r .memory) b) bs)
+  pub looked-on : eqb (r .number) more ≡ true → looked r (b ∷ bs) ≡ suc (looked (stepOf (r .chain) (r .memory) b) bs)
   looked-on e = ap (λ (q : Bool). pick q (suc (looked (pick q (stepOf (r .chain) (r .memory) b) r) bs)) 0) e
 
-  looked-off : eqb (r .number) more ≡ false → looked r (b ∷ bs) ≡ 0
+  pub looked-off : eqb (r .number) more ≡ false → looked r (b ∷ bs) ≡ 0
   looked-off e = rw e refl
 
 none-more : (t : ℕ) → t < 2 ^ 32 → t ≡ (t + 0) % 2 ^ 32

@@ -1,0 +1,41 @@
+-- What a caller sees of a loader: each call as a function of what it is lent, with what it leaves there. Assumes nothing.
+use Prim.Native.Nat.{ℕ, _≤_}
+use mathlib.Core.Path.{_≡_}
+use mathlib.Core.List.{List}
+use lib.ListN.{length}
+use Rattle.chain.specs.declared.Chain.{Chain}
+use Rattle.chain.specs.declared.Made.{Made}
+use Rattle.chain.specs.declared.Written.{Written}
+use Rattle.chain.specs.Paper.{closed, done, first-mode, two-preambles}
+use Rattle.chain.specs.State.{stateNumber}
+use Rattle.machine.specs.declared.Fed.{Fed}
+use Rattle.demands.specs.Grammar.{Bytes}
+
+-- a slice's answer and the memory it leaves
+pub record AfterSlice : Type 0 where
+  pub fed : Fed
+  pub memory : List ℕ
+
+-- a writing call's answer and the output it leaves
+pub record AfterWrite : Type 0 where
+  pub written : Written
+  pub out : List ℕ
+
+-- the parameters stand in the calls' own order
+pub record Loader : Type 0 where
+  pub start : Chain → List ℕ → ℕ → ℕ → Made
+  pub slice : Chain → List ℕ → List ℕ → AfterSlice
+  pub closing : Chain → List ℕ → List ℕ → AfterWrite
+
+-- a lent chain that no number refuses, with no run open: eight kinds and registers, and bytes, as the types of the code say
+pub record Idle (c : Chain) (m : List ℕ) : Type 0 where
+  pub kinds : length (c .kinds) ≡ 8
+  pub registers : length (c .registers) ≡ 8
+  pub register-bytes : Bytes (c .registers)
+  pub memory-bytes : Bytes m
+  pub sound : stateNumber c (length m) ≡ done
+  pub closed-place : c .place .running ≡ closed
+
+pub record Mode (mode : ℕ) : Type 0 where
+  pub least : first-mode ≤ mode
+  pub most : mode ≤ two-preambles
