@@ -1,0 +1,11 @@
+pub mod Packing
+pub mod Regroup
+pub mod Chunks
+pub mod Ranged
+pub mod Whole
+pub mod Numbers
+pub mod Formed
+pub mod Answers
+pub mod Only
+pub mod RoundTrip
+pub mod Cases

@@ -1,0 +1,10 @@
+pub mod Over
+pub mod Windows
+pub mod Turn
+pub mod Parts
+pub mod Accepted
+pub mod Answers
+pub mod Only
+pub mod First
+pub mod Lengths
+pub mod Examples

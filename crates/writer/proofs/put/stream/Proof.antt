@@ -1,0 +1,78 @@
+use Prim.Native.Nat.{ℕ, _+_, _-_}
+use mathlib.Core.Path.{_≡_, sym, ap, _∙_}
+use mathlib.Core.List.{List, _++_}
+use native.Mathlib.Omega.{arith}
+use lib.ListN.{length, set, length-set}
+use Rattle.chain.specs.Paper.{postamble}
+use Rattle.writer.specs.Stream.{headBytes, windowsBytes, streamOf}
+use Rattle.writer.proofs.Over.{then-over, then-byte, length-over}
+use Rattle.writer.proofs.Parts.{head-length, parts-length, stream-length}
+use borrow.Author.Needs.{needs}
+use Rattle.writer.proofs.put.stream.Statement.{statement}
+use Rattle.writer.proofs.put.stream.Tie as tie
+use Rattle.writer.proofs.put.stream.Reads as reads
+use Rattle.writer.proofs.put.stream.Lts as lts
+use Rattle.writer.proofs.put.head.Reads as head-reads
+use Rattle.writer.proofs.put.windows.Reads as windows-reads
+
+head-requires : tie.Need-head-requires
+head-requires c κs = search needs
+
+sub-windows : tie.Need-sub-windows
+sub-windows c = search needs
+
+part-windows-start : tie.Need-part-windows-start
+part-windows-start c = search needs
+
+part-windows-end : tie.Need-part-windows-end
+part-windows-end c = search needs
+
+windows-requires : tie.Need-windows-requires
+windows-requires c κs = search needs
+
+add-end : tie.Need-add-end
+add-end c = search needs
+
+slice-write-out : tie.Need-slice-write-out
+slice-write-out c = search needs
+
+add-result : tie.Need-add-result
+add-result c = search needs
+
+same-length : tie.Need-same-length
+same-length c = let a = (c .before .before .before .before .before .before .before .before .before .before .before .before .args) in
+    let l : length (a .address) ≡ 3 = search needs in
+    let hd : List ℕ = headBytes (a .mode) (a .control) (a .address) (length (a .starts .now)) in
+    let ws : List ℕ = windowsBytes (a .starts .now) (a .ends .now) (a .cells .now) in
+    let n = parts-length (a .mode) (a .control) (a .address) l (a .starts .now) (a .ends .now) (a .cells .now) (c .before .before .before .before .before .before .before .before .before .before .before .before .pre .0) (c .before .before .before .before .before .before .before .before .before .before .before .before .pre .2) in
+    let u = then-over (c .before .before .before .before .before .before .head .result) hd ws (a .out .now) _ _ ((c .before .before .before .before .before .before .head .ensures .0) ∙ sym (head-length (a .mode) (a .control) (a .address) l (length (a .starts .now)))) (c .before .before .before .before .before .before .head .ensures .1) (c .before .before .windows .ensures .1) in
+    simp length-set (ap length u ∙ length-over (hd ++ ws) (a .out .now) (omega arith))
+
+returns : tie.Need-returns
+unfolding streamOf
+returns c = let a = (c .before .before .before .before .before .before .before .before .before .before .before .before .args) in
+    let l : length (a .address) ≡ 3 = search needs in
+    let hd : List ℕ = headBytes (a .mode) (a .control) (a .address) (length (a .starts .now)) in
+    let ws : List ℕ = windowsBytes (a .starts .now) (a .ends .now) (a .cells .now) in
+    let n = parts-length (a .mode) (a .control) (a .address) l (a .starts .now) (a .ends .now) (a .cells .now) (c .before .before .before .before .before .before .before .before .before .before .before .before .pre .0) (c .before .before .before .before .before .before .before .before .before .before .before .before .pre .2) in
+    let m = stream-length (a .mode) (a .control) (a .address) l (a .starts .now) (a .ends .now) (a .cells .now) (c .before .before .before .before .before .before .before .before .before .before .before .before .pre .0) (c .before .before .before .before .before .before .before .before .before .before .before .before .pre .2) in
+    let u = then-over (c .before .before .before .before .before .before .head .result) hd ws (a .out .now) _ _ ((c .before .before .before .before .before .before .head .ensures .0) ∙ sym (head-length (a .mode) (a .control) (a .address) l (length (a .starts .now)))) (c .before .before .before .before .before .before .head .ensures .1) (c .before .before .windows .ensures .1) in (
+      omega arith,
+      ap (λ (o : List ℕ). set o ((c .before .before .before .before .before .before .head .result) + (c .before .before .windows .result)) postamble) u
+          ∙ then-byte (hd ++ ws) (a .out .now) ((c .before .before .before .before .before .before .head .result) + (c .before .before .windows .result)) postamble (omega arith) (omega arith),
+    )
+
+pub stream-spec : {M : Type 1} → statement M
+stream-spec =
+    tie.close
+    (tie.spec
+    head-requires
+    sub-windows
+    part-windows-start
+    part-windows-end
+    windows-requires
+    add-end
+    slice-write-out
+    add-result
+    same-length
+    returns)
