@@ -1,2 +1,16 @@
 pub mod Along
 pub mod Accepted
+pub mod StreamA
+pub mod Shut
+pub mod Eager
+pub mod Twelve
+pub mod Puts
+pub mod Short
+pub mod Counts
+pub mod Forward
+pub mod Seen
+pub mod Read
+pub mod Windows
+pub mod Parse
+pub mod Plain
+pub mod Meant

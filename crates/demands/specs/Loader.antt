@@ -9,6 +9,8 @@ use Rattle.chain.specs.declared.Written.{Written}
 use Rattle.chain.specs.Paper.{closed, done, first-mode, two-preambles}
 use Rattle.chain.specs.State.{stateNumber}
 use Rattle.machine.specs.declared.Fed.{Fed}
+use Rattle.hunt.specs.declared.Hunted.{Hunted}
+use Rattle.lister.specs.declared.Listed.{Listed}
 use Rattle.demands.specs.Grammar.{Bytes}
 
 -- a slice's answer and the memory it leaves
@@ -21,11 +23,26 @@ pub record AfterWrite : Type 0 where
   pub written : Written
   pub out : List ℕ
 
+-- a hunt's
+pub record AfterHunt : Type 0 where
+  pub hunted : Hunted
+  pub out : List ℕ
+
+-- a listing's answer and the three tables it leaves
+pub record AfterList : Type 0 where
+  pub listed : Listed
+  pub starts : List ℕ
+  pub ends : List ℕ
+  pub offsets : List ℕ
+
 -- the parameters stand in the calls' own order
 pub record Loader : Type 0 where
   pub start : Chain → List ℕ → ℕ → ℕ → Made
   pub slice : Chain → List ℕ → List ℕ → AfterSlice
   pub closing : Chain → List ℕ → List ℕ → AfterWrite
+  pub write : ℕ → ℕ → ℕ → List ℕ → List ℕ → List ℕ → List ℕ → List ℕ → AfterWrite
+  pub list : ℕ → ℕ → List ℕ → List ℕ → List ℕ → List ℕ → AfterList
+  pub hunt : List ℕ → List ℕ → AfterHunt
 
 -- a lent chain that no number refuses, with no run open: eight kinds and registers, and bytes, as the types of the code say
 pub record Idle (c : Chain) (m : List ℕ) : Type 0 where

@@ -1,0 +1,7 @@
+pub mod Parts
+pub mod Meets
+pub mod Only
+pub mod Ends
+pub mod Rows
+pub mod Sound
+pub mod Closes

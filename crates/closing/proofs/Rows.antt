@@ -1,0 +1,220 @@
+-- Each row of closing bytes ends a run that awaits its byte: by the byte's own step and the row of the byte after it. Assumes nothing.
+use Prim.Native.Nat.{ℕ, suc, _+_, _-_, _*_, _/_, _%_, _<_, _≤_}
+use mathlib.Core.Bool.{Bool, true, false, not, _&&_, _||_, and-false, or-true, or-comm, true≢false}
+use mathlib.Core.Path.{_≡_, refl, ap, sym, _∙_}
+use mathlib.Core.List.{List, [], _∷_, _++_}
+use native.Mathlib.Nat.{div-add-mod', mod-lt}
+use native.Mathlib.Omega.{arith}
+use lib.Dec.{eqb, ltb, leb, lit<}
+use lib.ListN.{length, getD, set, take, drop, length-drop}
+use lib.Seq.{set-getD, length-take-le}
+use borrow.Author.Tests.{lt-ltb, le-ltb, lt-leb, eqb-true, eqb-false, ltb-true, ltb-false}
+use Rattle.chain.specs.declared.Chain.{Chain}
+use Rattle.chain.specs.declared.Place.{Place}
+use Rattle.chain.specs.Paper.{postamble, no-windows, at·preamble, at·second, at·control, at·address, at·address2, at·address3, at·count, at·null, at·start, at·start-low, at·end, at·end-low, at·data, at·check, writing, checking, done, no-preamble, bad-start, bad-end, more, B3}
+use Rattle.chain.specs.Rules.{pick}
+use Rattle.chain.specs.Set.{with·awaited, with·left, with·control, with·start, with·end, with·next, with·place, closedPlace}
+use Rattle.chain.specs.Kinds.{sizeOf, baseOf}
+use Rattle.machine.specs.Byte.{awaits, checks, sizeHere, withLow, badStart, badEnd, noWindow, numberOf, passedOf, advanceOf}
+use Rattle.machine.specs.Run.{addressOf, memoryOf, registersOf, missedOf, counted, Run, run, stepOf, runOf}
+use Rattle.machine.specs.Block.{missesOf, laidOf}
+use Rattle.machine.proofs.Block.{blockOf, block, laid-same}
+use Rattle.closing.specs.Closing.{deviceSize, storedRegister, largest, present, tail, noEnd, nearest}
+use Rattle.closing.proofs.Ends.{by-test, Ends, ends-last, ends-after, ends-step}
+
+-- one byte more taken
+abbrev next : Chain → Place
+next c = counted (c .place) 1 0
+
+-- a byte that is neither a control byte nor data, and that the run takes
+module _ (c : Chain) (m : List ℕ) (b : ℕ) where
+  quiet : (q : Place) → numberOf c b ≡ more → awaits c at·data ≡ false → awaits c at·control ≡ false → advanceOf (next c) b ≡ q
+      → stepOf c m b ≡ run (with·place c q) m more
+  unfolding stepOf registersOf memoryOf missedOf
+  quiet q e f g h = rw (e, f, g, h)
+
+  step-3 : c .place .awaited ≡ at·address → stepOf c m b ≡ run (with·place c (with·awaited (next c) at·address2)) m more
+  unfolding numberOf advanceOf
+  step-3 e = quiet (with·awaited (next c) at·address2) (simp (e, and-false)) (rw e) (rw e) (rw e)
+
+  step-4 : c .place .awaited ≡ at·address2 → stepOf c m b ≡ run (with·place c (with·awaited (next c) at·address3)) m more
+  unfolding numberOf advanceOf
+  step-4 e = quiet (with·awaited (next c) at·address3) (simp (e, and-false)) (rw e) (rw e) (rw e)
+
+  step-5 : c .place .awaited ≡ at·address3 → stepOf c m b ≡ run (with·place c (with·awaited (next c) at·count)) m more
+  unfolding numberOf advanceOf
+  step-5 e = quiet (with·awaited (next c) at·count) (simp (e, and-false)) (rw e) (rw e) (rw e)
+
+  step-7 : c .place .awaited ≡ at·null → stepOf c m b ≡ run (with·place c (with·awaited (next c) at·start)) m more
+  unfolding numberOf advanceOf
+  step-7 e = quiet (with·awaited (next c) at·start) (simp (e, and-false)) (rw e) (rw e) (rw e)
+
+  step-8 : c .place .awaited ≡ at·start → stepOf c m b ≡ run (with·place c (with·awaited (with·start (next c) (b * 256)) at·start-low)) m more
+  unfolding numberOf advanceOf
+  step-8 e = quiet (with·awaited (with·start (next c) (b * 256)) at·start-low) (simp (e, and-false)) (rw e) (rw e) (rw e)
+
+  step-9 : c .place .awaited ≡ at·start-low → badStart c b ≡ false
+      → stepOf c m b ≡ run (with·place c (with·awaited (with·start (next c) (withLow (c .place .start) b)) at·end)) m more
+  unfolding numberOf advanceOf
+  step-9 e h = quiet (with·awaited (with·start (next c) (withLow (c .place .start) b)) at·end) (simp (e, h, and-false)) (rw e) (rw e) (rw e)
+
+  step-10 : c .place .awaited ≡ at·end → stepOf c m b ≡ run (with·place c (with·awaited (with·end (next c) (b * 256)) at·end-low)) m more
+  unfolding numberOf advanceOf
+  step-10 e = quiet (with·awaited (with·end (next c) (b * 256)) at·end-low) (simp (e, and-false)) (rw e) (rw e) (rw e)
+
+  step-11 : c .place .awaited ≡ at·end-low → badEnd c b ≡ false
+      → stepOf c m b ≡ run (with·place c (with·awaited (with·next (with·end (next c) (withLow (c .place .end) b)) (c .place .start)) at·data)) m more
+  unfolding numberOf advanceOf
+  step-11 e h =
+      quiet (with·awaited (with·next (with·end (next c) (withLow (c .place .end) b)) (c .place .start)) at·data) (simp (e, h, and-false))
+      (rw e) (rw e) (rw e)
+
+module _ (c : Chain) (m : List ℕ) where
+  -- the count byte says no windows
+  step-6 : c .place .awaited ≡ at·count → stepOf c m no-windows ≡ run (with·place c (with·awaited (next c) at·check)) m more
+  unfolding numberOf advanceOf
+  step-6 e = quiet c m no-windows (with·awaited (next c) at·check) (simp (e, and-false)) (rw e) (rw e) (rw e)
+
+  -- the stored register as the control byte: a write loads what is there, a check loads nothing
+  registers-2 : registersOf c (storedRegister c) ≡ c .registers
+  unfolding registersOf
+  registers-2 = rw (set-getD (c .registers) (c .place .device) 0) (either (awaits c at·control && eqb (c .place .check) writing))
+    where
+      either : (q : Bool) → pick q (c .registers) (c .registers) ≡ c .registers
+      either true = refl
+      either false = refl
+
+  number-2 : c .place .awaited ≡ at·control → (checks c && B3 (storedRegister c)) ≡ false → numberOf c (storedRegister c) ≡ more
+  unfolding numberOf
+  number-2 e h = simp (e, h, and-false)
+
+  step-2 : c .place .awaited ≡ at·control → (checks c && B3 (storedRegister c)) ≡ false
+      → stepOf c m (storedRegister c) ≡ run (with·place c (with·awaited (with·control (next c) (storedRegister c)) at·address)) m more
+  unfolding stepOf memoryOf missedOf advanceOf
+  step-2 e h = rw (number-2 e h, registers-2, e)
+
+-- ---- the rows without cells
+
+module _ (c : Chain) (m : List ℕ) where
+  pub ends-0 : c .place .awaited ≡ at·preamble → Ends c m (0x00 ∷ []) no-preamble
+  unfolding numberOf
+  ends-0 e = ends-last c m no-preamble 0x00 (simp e) (omega arith)
+
+  pub ends-1 : c .place .awaited ≡ at·second → Ends c m (0x00 ∷ []) no-preamble
+  unfolding numberOf
+  ends-1 e = ends-last c m no-preamble 0x00 (simp e) (omega arith)
+
+  pub ends-13 : c .place .awaited ≡ at·check → Ends c m (postamble ∷ []) done
+  unfolding numberOf
+  ends-13 e = ends-last c m done postamble (simp (e, and-false)) (omega arith)
+
+pub ends-6 : (c : Chain) (m : List ℕ) → c .place .awaited ≡ at·count → Ends c m (no-windows ∷ postamble ∷ []) done
+ends-6 c m e = ends-step c m done _ no-windows (postamble ∷ []) (step-6 c m e) refl (ends-13 _ m refl)
+
+pub ends-5 : (c : Chain) (m : List ℕ) → c .place .awaited ≡ at·address3 → Ends c m (0x00 ∷ no-windows ∷ postamble ∷ []) done
+ends-5 c m e = ends-step c m done _ 0x00 (no-windows ∷ postamble ∷ []) (step-5 c m 0x00 e) refl (ends-6 _ m refl)
+
+pub ends-4 : (c : Chain) (m : List ℕ) → c .place .awaited ≡ at·address2 → Ends c m (0x00 ∷ 0x00 ∷ no-windows ∷ postamble ∷ []) done
+ends-4 c m e = ends-step c m done _ 0x00 (0x00 ∷ no-windows ∷ postamble ∷ []) (step-4 c m 0x00 e) refl (ends-5 _ m refl)
+
+pub ends-3 : (c : Chain) (m : List ℕ) → c .place .awaited ≡ at·address → Ends c m (0x00 ∷ 0x00 ∷ 0x00 ∷ no-windows ∷ postamble ∷ []) done
+ends-3 c m e = ends-step c m done _ 0x00 (0x00 ∷ 0x00 ∷ no-windows ∷ postamble ∷ []) (step-3 c m 0x00 e) refl (ends-4 _ m refl)
+
+pub ends-2 : (c : Chain) (m : List ℕ) → c .place .awaited ≡ at·control → (checks c && B3 (storedRegister c)) ≡ false
+    → Ends c m (storedRegister c ∷ 0x00 ∷ 0x00 ∷ 0x00 ∷ no-windows ∷ postamble ∷ []) done
+ends-2 c m e h =
+    ends-step c m done _ (storedRegister c) (0x00 ∷ 0x00 ∷ 0x00 ∷ no-windows ∷ postamble ∷ []) (step-2 c m e h) refl (ends-3 _ m refl)
+
+-- a start or an end that is out of its bounds
+module _ (c : Chain) (m : List ℕ) (b : ℕ) where
+  ends-start : c .place .awaited ≡ at·start-low → badStart c b ≡ true → Ends c m (b ∷ []) bad-start
+  unfolding numberOf
+  ends-start e h = ends-last c m bad-start b (simp (e, h, and-false)) (omega arith)
+
+  ends-end : c .place .awaited ≡ at·end-low → badEnd c b ≡ true → Ends c m (b ∷ []) bad-end
+  unfolding numberOf
+  ends-end e h = ends-last c m bad-end b (simp (e, h, and-false)) (omega arith)
+
+-- FF FF is no start and no end of any device
+pub ends-8 : (c : Chain) (m : List ℕ) → sizeHere c ≤ 65535 → c .place .awaited ≡ at·start → Ends c m (0xff ∷ 0xff ∷ []) bad-start
+ends-8 c m s e =
+    ends-step c m bad-start _ 0xff (0xff ∷ []) (step-8 c m 0xff e) refl
+    (ends-start _ m 0xff refl (rw (le-ltb 65535 (sizeHere c) s)))
+
+pub ends-7 : (c : Chain) (m : List ℕ) → sizeHere c ≤ 65535 → c .place .awaited ≡ at·null → Ends c m (0x00 ∷ 0xff ∷ 0xff ∷ []) bad-start
+ends-7 c m s e = ends-step c m bad-start _ 0x00 (0xff ∷ 0xff ∷ []) (step-7 c m 0x00 e) refl (ends-8 _ m s refl)
+
+pub ends-10 : (c : Chain) (m : List ℕ) → sizeHere c ≤ 65535 → c .place .awaited ≡ at·end → Ends c m (0xff ∷ 0xff ∷ []) bad-end
+ends-10 c m s e =
+    ends-step c m bad-end _ 0xff (0xff ∷ []) (step-10 c m 0xff e) refl
+    (ends-end _ m 0xff refl (rw (le-ltb 65535 (sizeHere c) s, or-true)))
+
+pub ends-9 : (c : Chain) (m : List ℕ) → sizeHere c ≤ 65535 → c .place .awaited ≡ at·start-low
+    → Ends c m (0xff ∷ pick (ltb (largest (c .place .start)) (deviceSize c)) (0xff ∷ 0xff ∷ []) []) (pick (ltb (largest (c .place .start)) (deviceSize c)) bad-end bad-start)
+ends-9 c m s e =
+    by-test (ltb (largest (c .place .start)) (deviceSize c))
+    (λ q. rw q (ends-step c m bad-end _ 0xff (0xff ∷ 0xff ∷ []) (step-9 c m 0xff e (rw q)) refl (ends-10 _ m s refl)))
+    (λ q. rw q (ends-start c m 0xff e (rw q)))
+
+-- ---- the rows with cells
+
+-- after its window's last data byte
+window-over : (p : Place) (n : ℕ) → p .end < p .next + n
+    → passedOf p n ≡ pick (ltb 1 (p .left)) (with·awaited (with·left (noWindow p) (p .left - 1)) at·null) (with·awaited (with·left (noWindow p) 0) at·check)
+unfolding passedOf
+window-over p n h = rw (lt-leb (p .next + n) (p .end) h)
+
+-- with what a run ends that goes on after the current window
+abbrev pub tailNumber : Place → ℕ
+tailNumber p = pick (ltb 1 (p .left)) bad-start done
+
+ends-tail : (c : Chain) (m : List ℕ) (p : Place) (n : ℕ) → sizeOf (getD (c .kinds) (p .device) 0) ≤ 65535 → p .end < p .next + n
+    → Ends (with·place c (passedOf p n)) m (tail p) (tailNumber p)
+ends-tail c m p n s h =
+    rw (window-over p n h) (by-test (ltb 1 (p .left)) (λ q. rw q (ends-7 _ m s refl)) (λ q. rw q (ends-13 _ m refl)))
+
+pub ends-12 : (c : Chain) (m : List ℕ) → sizeHere c ≤ 65535 → c .place .awaited ≡ at·data → c .place .next ≤ c .place .end
+    → baseOf (c .kinds) (c .place .device) + c .place .end < length m
+    → Ends c m (present c m (c .place .next) (c .place .end) ++ tail (c .place)) (tailNumber (c .place))
+unfolding addressOf
+ends-12 c m s e f g =
+    let p : Place = c .place in
+    let n : ℕ = p .end - p .next + 1 in
+    let i : ℕ = baseOf (c .kinds) (p .device) + p .next in
+    let bs : List ℕ = take n (drop i m) in
+    let l : length bs ≡ n = length-take-le n (drop i m) (omega (arith, length-drop i m)) in
+    let w : runOf (run c m more) bs ≡ run (blockOf c m i bs) m more =
+        block bs c m e (omega arith) (omega arith) ∙ rw (laid-same m i n (omega arith) (p .check)) in
+    ends-after c m (tailNumber p) (blockOf c m i bs) bs (tail p) w refl
+    (ends-tail c m (counted p (length bs) (missesOf (p .check) m i bs)) (length bs) s (omega arith))
+
+-- the end that the low byte makes
+module _ (p : Place) (size : ℕ) (l : largest (p .end) < size) (g : p .start ≤ largest (p .end)) where
+  pub nearest-fits : (p .start ≤ p .end / 256 * 256 + nearest p) × (p .end / 256 * 256 + nearest p < size)
+  nearest-fits =
+      by-test (eqb (p .end / 256) (p .start / 256))
+      (λ q. rw q (omega (arith, eqb-true (p .end / 256) (p .start / 256) q, div-add-mod' (p .start) 256)))
+      (λ q. rw q (omega (arith, eqb-false (p .end / 256) (p .start / 256) q, div-add-mod' (p .start) 256, mod-lt (p .start) (lit< {m = 0} {n = 256} tt))))
+
+-- FF is no end, or the nearest end is taken and the window is closed by its present cells
+pub noEnd-false : (a b : Bool) → (not a || b) ≡ false → (a ≡ true) × (b ≡ false)
+noEnd-false true b h = (refl, h)
+noEnd-false false b h = absurd (true≢false h)
+
+pub ends-11 : (c : Chain) (m : List ℕ) → sizeHere c ≤ 65535 → c .place .awaited ≡ at·end-low
+    → baseOf (c .kinds) (c .place .device) + sizeHere c ≤ length m
+    → Ends c m
+    (pick (noEnd c) (0xff ∷ []) (nearest (c .place) ∷ present c m (c .place .start) (c .place .end / 256 * 256 + nearest (c .place)) ++ tail (c .place)))
+    (pick (noEnd c) bad-end (tailNumber (c .place)))
+ends-11 c m s e i =
+    by-test (noEnd c)
+    (λ q. rw q (ends-end c m 0xff e (or-comm (ltb (largest (c .place .end)) (c .place .start)) (not (ltb (largest (c .place .end)) (sizeHere c))) ∙ q)))
+    (λ q.
+    let p : Place = c .place in
+    let t = noEnd-false (ltb (largest (p .end)) (sizeHere c)) (ltb (largest (p .end)) (p .start)) q in
+    let f = nearest-fits p (sizeHere c) (ltb-true (largest (p .end)) (sizeHere c) (t .0)) (ltb-false (largest (p .end)) (p .start) (t .1)) in
+    rw q
+    (ends-step c m (tailNumber p) _ (nearest p) _
+    (step-11 c m (nearest p) e (rw (le-ltb (withLow (p .end) (nearest p)) (p .start) (f .0), lt-ltb (withLow (p .end) (nearest p)) (sizeHere c) (f .1))))
+    refl
+    (ends-12 _ m s refl (f .0) (omega arith))))

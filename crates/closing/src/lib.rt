@@ -1,0 +1,121 @@
+// The closing bytes of a stopped run: what ends it and changes no cell and no register. They are written, not fed: the
+// length is known first, then they go straight from the lent memory to the output.
+mod output;
+
+use crate::output::part;
+use crate::output::put;
+use crate::output::put_three;
+use chain::Chain;
+use chain::Written;
+use chain::eight::at8;
+use chain::kinds::base_of;
+use chain::kinds::size_of;
+use chain::paper::*;
+use chain::state::open_number;
+ghost use mathlib.Core.Path.{_≡_};
+ghost use mathlib.Core.List.{_++_};
+ghost use Prim.Native.Nat.{_+_, _-_, _/_, _%_, _≤_, _<_};
+ghost use lib.Dec.{eqb};
+ghost use Rattle.chain.specs.Rules.{pick};
+ghost use lib.ListN.{length};
+ghost use Rattle.chain.specs.Paper.{at·start-low, at·end-low};
+ghost use Rattle.closing.specs.Closing.{present, tail, closingBytes};
+ghost use Rattle.closing.specs.Calls.{Closing};
+ghost use Rattle.closing.specs.Put.{Put};
+
+// A window: the lead, its present cells from one to another, its tail.
+fn put_window(c: Chain, mem: &[u8], lead: &[u8], first: u16, last: u16, out: &mut [u8]) -> Written
+    requires { ⌜ length (now lead) ≤ 1 ⌝ }
+    ensures { λ r. ⌜ Put (now (lead .entry) ++ (present c (now (mem .entry)) first last ++ tail (c .place))) (now (out .entry)) r (now (out .exit)) ⌝ }
+{
+    let ks = c.kinds;
+    let at = base_of(ks, c.place.device) + first as usize;
+    let cells = part(mem, at, width(first, last));
+    if 1 < c.place.left {
+        return put_three(out, lead, cells, &[0x00, 0xff, 0xff]);
+    }
+    put_three(out, lead, cells, &[POSTAMBLE])
+}
+
+fn width(first: u16, last: u16) -> usize
+    ensures { λ r. ⌜ (r ≡ last - first + 1) × (r ≤ 65536) ⌝ }
+{
+    if last < first {
+        return 1;
+    }
+    (last - first) as usize + 1
+}
+
+fn close_start(c: Chain, mem: &[u8], out: &mut [u8]) -> Written
+    requires { ⌜ c .place .awaited ≡ at·start-low ⌝ }
+    ensures { λ r. ⌜ Put (closingBytes c (now (mem .entry))) (now (out .entry)) r (now (out .exit)) ⌝ }
+{
+    let ks = c.kinds;
+    let size = size_of(at8(ks, c.place.device));
+    if c.place.start / 256 * 256 + 255 < size {
+        return put(out, &[0xff, 0xff, 0xff]);
+    }
+    put(out, &[0xff])
+}
+
+// The low byte of the nearest end: the start's where the two high bytes are one.
+fn nearest_low(start: u16, end: u16) -> u16
+    ensures { λ r. ⌜ (r ≡ pick (eqb (end / 256) (start / 256)) (start % 256) 0x00) × (r < 256) ⌝ }
+{
+    if end / 256 == start / 256 { start % 256 } else { 0x00 }
+}
+
+fn close_end(c: Chain, mem: &[u8], out: &mut [u8]) -> Written
+    requires { ⌜ c .place .awaited ≡ at·end-low ⌝ }
+    ensures { λ r. ⌜ Put (closingBytes c (now (mem .entry))) (now (out .entry)) r (now (out .exit)) ⌝ }
+{
+    let ks = c.kinds;
+    let size = size_of(at8(ks, c.place.device));
+    let p = c.place;
+    let most = p.end / 256 * 256 + 255;
+    if !(most < size) | (most < p.start) {
+        return put(out, &[0xff]);
+    }
+    let low = nearest_low(p.start, p.end);
+    put_window(c, mem, &[low as u8], p.start, p.end / 256 * 256 + low, out)
+}
+
+// The row of the awaited byte.
+fn close(c: Chain, mem: &[u8], out: &mut [u8]) -> Written
+    ensures { λ r. ⌜ Put (closingBytes c (now (mem .entry))) (now (out .entry)) r (now (out .exit)) ⌝ }
+{
+    let p = c.place;
+    let rs = c.registers;
+    let a = p.awaited;
+    match a {
+        AT_PREAMBLE => put(out, &[0x00]),
+        AT_SECOND => put(out, &[0x00]),
+        AT_CONTROL => put(out, &[at8(rs, p.device), 0x00, 0x00, 0x00, NO_WINDOWS, POSTAMBLE]),
+        AT_ADDRESS => put(out, &[0x00, 0x00, 0x00, NO_WINDOWS, POSTAMBLE]),
+        AT_ADDRESS2 => put(out, &[0x00, 0x00, NO_WINDOWS, POSTAMBLE]),
+        AT_ADDRESS3 => put(out, &[0x00, NO_WINDOWS, POSTAMBLE]),
+        AT_COUNT => put(out, &[NO_WINDOWS, POSTAMBLE]),
+        AT_CHECK => put(out, &[POSTAMBLE]),
+        AT_NULL => put(out, &[0x00, 0xff, 0xff]),
+        AT_START => put(out, &[0xff, 0xff]),
+        AT_START_LOW => close_start(c, mem, out),
+        AT_END => put(out, &[0xff, 0xff]),
+        AT_END_LOW => close_end(c, mem, out),
+        AT_DATA => put_window(c, mem, &mem[0..0], p.next, p.end, out),
+        _ => Written {
+            number: DONE,
+            length: 0,
+        },
+    }
+}
+
+// Writes the bytes that close the open run; the run stays open.
+pub fn closing(c: Chain, mem: &[u8], out: &mut [u8]) -> Written
+    ensures { λ r. ⌜ Closing c (now (mem .entry)) (now (out .entry)) r (now (out .exit)) ⌝ }
+{
+    let n = open_number(c, mem.len());
+    if n != DONE {
+        return Written { number: n, length: 0 };
+    }
+    close(c, mem, out)
+}

@@ -1,0 +1,82 @@
+-- Loaders that clause (a) of the second demand shuts out: a constant answer and refusing all, storing nothing, a made-up count.
+-- Assumes nothing.
+use Prim.Native.Nat.{ℕ, _<_}
+use mathlib.Core.Bool.{Bool, true, false}
+use mathlib.Core.Path.{_≡_, refl, sym, _∙_}
+use mathlib.Core.List.{List, [], _∷_, _++_}
+use native.Mathlib.Omega.{arith}
+use lib.Dec.{eqb}
+use lib.ListN.{length, take, getD}
+use Rattle.chain.specs.declared.Chain.{Chain}
+use Rattle.chain.specs.Paper.{preamble, two-preambles, writing, done, more}
+use Rattle.chain.specs.Rules.{pick}
+use Rattle.chain.specs.Kinds.{baseOf}
+use Rattle.chain.proofs.Tests.{by-test}
+use Rattle.demands.specs.Grammar.{Sent, Section, bytesOf, sectionsSent, streamSent}
+use Rattle.demands.specs.Loader.{Loader, Idle, Mode}
+use Rattle.demands.specs.Demand2.{unlikes, Fitting, Seen, Loads, Demand2a}
+use Rattle.demands.specs.Wrong.{constant, idle, taking, missing}
+use Rattle.demands.proofs.StreamA.{teaching, cells0, sectionA, idle-teaching, mode-one, fits-A}
+
+-- a stream is never empty
+pub record Begins (bs : List ℕ) : Type 0 where
+  pub first : ℕ
+  pub rest : List ℕ
+  pub is : bs ≡ first ∷ rest
+
+pub begins : (c : Chain) (mode : ℕ) (s : Section) (ss : List Section) → Begins (bytesOf (streamSent c mode s ss))
+begins c mode s ss =
+    by-test (eqb mode two-preambles) (λ e. record { first = preamble; rest = preamble ∷ bytesOf (sectionsSent c 0 s ss); is = rw e refl })
+    (λ e. record { first = preamble; rest = bytesOf (sectionsSent c 0 s ss); is = rw e refl })
+
+-- ---- what a loader that meets the clause shows of any fitting stream, fed whole or in front part by one slice
+
+module _ (l : Loader) (d : Demand2a l) (c : Chain) (m : List ℕ) (check mode : ℕ) (s : Section) (ss : List Section)
+    (i : Idle c m) (o : Mode mode) (f : Fitting c check mode s ss) where
+  pub whole-seen : Seen check c m (streamSent c mode s ss) done (l .slice (l .start c m mode check .chain) m (bytesOf (streamSent c mode s ss)))
+  whole-seen =
+      let b = begins c mode s ss in
+      rw (b .is) (d c m check mode s ss i o f .whole [] (b .first) (b .rest) (sym (b .is)))
+
+  pub part-seen : (k : ℕ) → k < length (streamSent c mode s ss)
+      → Seen check c m (take k (streamSent c mode s ss)) more (l .slice (l .start c m mode check .chain) m (take k (bytesOf (streamSent c mode s ss))))
+  part-seen k h = d c m check mode s ss i o f .part k h [] (take k (bytesOf (streamSent c mode s ss))) refl
+
+-- ---- every constant answer, refusing all with any number among them
+
+pub constant-out : (n t w : ℕ) → Demand2a (constant n t w) → ⊥
+constant-out n t w d =
+    let a : n ≡ done = whole-seen (constant n t w) d teaching cells0 writing 1 sectionA [] idle-teaching mode-one (fits-A writing) .number in
+    let b : n ≡ more = part-seen (constant n t w) d teaching cells0 writing 1 sectionA [] idle-teaching mode-one (fits-A writing) 0 (omega arith) .number in
+    omega arith
+
+-- ---- storing nothing
+
+pub idle-out : Demand2a idle → ⊥
+unfolding baseOf
+idle-out d =
+    let e : _≡_ {A = ℕ} 0 0x11 =
+        whole-seen idle d teaching cells0 writing 1 sectionA [] idle-teaching mode-one (fits-A writing) .cells 9 (omega arith) in
+    omega arith
+
+-- ---- every count of bytes taken, or of mismatches, that differs from the true one on some fitting stream, whole or in part
+
+module _ (f : Chain → List ℕ → List ℕ → ℕ) (c : Chain) (m : List ℕ) (check mode : ℕ) (s : Section) (ss : List Section)
+    (i : Idle c m) (o : Mode mode) (g : Fitting c check mode s ss) where
+  pub taking-out : (f (taking f .start c m mode check .chain) m (bytesOf (streamSent c mode s ss)) ≡ length (streamSent c mode s ss) → ⊥)
+      → Demand2a (taking f) → ⊥
+  taking-out h d = h (whole-seen (taking f) d c m check mode s ss i o g .taken)
+
+  pub taking-part-out : (k : ℕ) → k < length (streamSent c mode s ss)
+      → (f (taking f .start c m mode check .chain) m (take k (bytesOf (streamSent c mode s ss))) ≡ length (take k (streamSent c mode s ss)) → ⊥)
+      → Demand2a (taking f) → ⊥
+  taking-part-out k b h d = h (part-seen (taking f) d c m check mode s ss i o g k b .taken)
+
+  pub missing-out : (f (missing f .start c m mode check .chain) m (bytesOf (streamSent c mode s ss)) ≡ pick (eqb check writing) 0 (unlikes m (streamSent c mode s ss)) → ⊥)
+      → Demand2a (missing f) → ⊥
+  missing-out h d = h (whole-seen (missing f) d c m check mode s ss i o g .mismatches)
+
+  pub missing-part-out : (k : ℕ) → k < length (streamSent c mode s ss)
+      → (f (missing f .start c m mode check .chain) m (take k (bytesOf (streamSent c mode s ss))) ≡ pick (eqb check writing) 0 (unlikes m (take k (streamSent c mode s ss))) → ⊥)
+      → Demand2a (missing f) → ⊥
+  missing-part-out k b h d = h (part-seen (missing f) d c m check mode s ss i o g k b .mismatches)

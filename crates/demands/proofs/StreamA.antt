@@ -1,0 +1,50 @@
+-- Document 01's stream A on the teaching array: a stream that fits, for a write and for a check. Assumes nothing.
+use Prim.Native.Nat.{ℕ, zero, suc, _<_, _≤_}
+use mathlib.Core.Bool.{true, false}
+use mathlib.Core.Path.{_≡_, refl}
+use mathlib.Core.List.{List, [], _∷_}
+use native.Mathlib.Omega.{arith}
+use lib.ListN.{length, replicate}
+use lib.Dec.{lit<}
+use Rattle.chain.specs.declared.Chain.{Chain}
+use Rattle.chain.specs.Paper.{done}
+use Rattle.chain.specs.Kinds.{sizeOf, baseOf, knownOf}
+use Rattle.chain.specs.Set.{closedPlace}
+use Rattle.chain.specs.State.{badChain, unusedZero, wellFormed, illFormed, stateNumber}
+use Rattle.demands.specs.Grammar.{Window, Section, bytesOf, streamSent, Bytes}
+use Rattle.demands.specs.Loader.{Idle, Mode}
+use Rattle.demands.specs.Demand2.{Fitting}
+
+abbrev pub teaching : Chain
+teaching = record { count = 1; kinds = replicate 8 0; registers = replicate 8 0; place = closedPlace }
+
+abbrev pub cells0 : List ℕ
+cells0 = replicate 52 0
+
+abbrev pub windowA : Window
+windowA = record { null = 0; start = 9; end = 11; bytes = 0x11 ∷ 0x22 ∷ 0x33 ∷ [] }
+
+abbrev pub sectionA : Section
+sectionA = record { control = 0; address0 = 0; address1 = 0; address2 = 0; windows = windowA ∷ [] }
+
+
+zeros-bytes : (n : ℕ) → Bytes (replicate n 0)
+zeros-bytes zero = tt
+zeros-bytes (suc n) = (lit< tt, zeros-bytes n)
+
+pub idle-teaching : Idle teaching cells0
+unfolding stateNumber badChain illFormed unusedZero wellFormed knownOf baseOf sizeOf
+idle-teaching =
+    record { kinds = refl; registers = refl; register-bytes = zeros-bytes 8; memory-bytes = zeros-bytes 52; sound = refl; closed-place = refl }
+
+pub mode-one : Mode 1
+mode-one = record { least = omega arith; most = omega arith }
+
+pub fits-A : (check : ℕ) → Fitting teaching check 1 sectionA []
+unfolding sizeOf
+fits-A check =
+    record {
+      fits = (omega arith, record { few = omega arith; fit = (record { order = omega arith; inside = omega arith; full = refl }, tt) });
+      lets = record { b4 = refl; b3 = λ e. refl; sent-b3 = λ e. refl };
+      bytes = unfold baseOf in (lit< tt, (lit< tt, (lit< tt, (lit< tt, (lit< tt, (lit< tt, (lit< tt, (lit< tt, (lit< tt, (lit< tt, (lit< tt, (lit< tt, (lit< tt, (lit< tt, (lit< tt, tt)))))))))))))));
+    }

@@ -1,0 +1,4 @@
+pub mod Windows
+pub mod Listings
+pub mod Tables
+pub mod Runs

@@ -1,0 +1,142 @@
+-- What number 0 of a stream and of a listing tells, and that the bytes taken fit in 32 bits. Assumes nothing.
+use Prim.Native.Nat.{ℕ, zero, suc, _+_, _-_, _*_, _^_, _≤_, _<_}
+use mathlib.Core.Bool.{Bool, true, false, not, _&&_, _||_}
+use mathlib.Core.Path.{_≡_, refl, sym, ap, _∙_}
+use mathlib.Core.List.{List, [], _∷_}
+use native.Mathlib.Omega.{arith}
+use borrow.Author.Tests.{ltb-true, ltb-false, leb-true, eqb-true, eqb-false, eq-eqb, not-false}
+use lib.Dec.{eqb, ltb, leb}
+use lib.ListN.{length, getD}
+use Rattle.chain.specs.Paper.{preamble, postamble, first-mode, two-preambles, done, bad-chain, bad-mode, no-preamble, bad-check-byte, ends-here, last-device, too-short, more, B2}
+use Rattle.chain.specs.Rules.{pick, from}
+use Rattle.lister.specs.declared.stream.Stop.{Stop}
+use Rattle.lister.specs.declared.Listed.{Listed}
+use Rattle.lister.specs.Stops.{stop, _then_, ifDone}
+use Rattle.lister.specs.Windows.{windowsStop, windowsOf}
+use Rattle.lister.specs.Listing.{preambleAt, controlAt, countAt, headStop, checkStop, streamStop, anyShorter, listStop, listedOf, listingOf}
+use Rattle.lister.proofs.Windows.{by-test, or-no, windows-reach}
+
+-- ---- rows
+
+module _ (holds : Bool) (n t : ℕ) (e : Stop) where
+  -- number 0 passes a row that gives another
+  pub passes : (n ≡ done → ⊥) → pick holds (stop n t) e .number ≡ done → (holds ≡ false) × (pick holds (stop n t) e ≡ e) × (e .number ≡ done)
+  passes z h =
+      by-test holds (λ y. absurd (z (rw y at h))) (λ y. (y, rw y, rw y at h))
+
+  pub row-below : (k : ℕ) → (holds ≡ true → t ≤ k) → e .taken ≤ k → pick holds (stop n t) e .taken ≤ k
+  row-below k a b = by-test holds (λ y. rw y (a y)) (λ y. rw y b)
+
+module _ (e : Stop) (f : ℕ → Stop) where
+  pub then-done : (e then f) .number ≡ done → (e .number ≡ done) × ((e then f) ≡ f (e .taken)) × (f (e .taken) .number ≡ done)
+  then-done h =
+      by-test (eqb (e .number) done) (λ y. (eqb-true (e .number) done y, rw y, rw y at h))
+      (λ y. absurd (eqb-false (e .number) done y (rw y at h)))
+
+  pub then-below : (k : ℕ) → e .taken ≤ k → f (e .taken) .taken ≤ k → (e then f) .taken ≤ k
+  then-below k a b = by-test (eqb (e .number) done) (λ y. rw y b) (λ y. rw y a)
+
+-- ---- the stream
+
+preamble-small : (mode : ℕ) → preambleAt mode ≤ 1
+unfolding preambleAt
+preamble-small mode = by-test (eqb mode two-preambles) (λ y. rw y (omega arith)) (λ y. rw y (omega arith))
+
+module _ (mode : ℕ) (s : List ℕ) where
+  pub head-done : headStop mode s .number ≡ done → (headStop mode s ≡ stop done (preambleAt mode + 6)) × (preambleAt mode + 6 ≤ length s)
+  unfolding headStop
+  head-done h =
+      let a = passes (ltb 0 (length s) && not (eqb (getD s 0 0) preamble)) no-preamble 1 _ (λ z. omega (arith, z)) h in
+      let b = passes (eqb mode two-preambles && ltb 1 (length s) && not (eqb (getD s 1 0) preamble)) no-preamble 2 _ (λ z. omega (arith, z)) (a .2) in
+      let d = passes (ltb (length s) (preambleAt mode + 6)) more (length s) (stop done (preambleAt mode + 6)) (λ z. omega (arith, z)) (b .2) in
+      (a .1 ∙ b .1 ∙ d .1, ltb-false (length s) (preambleAt mode + 6) (d .0))
+
+  head-below : headStop mode s .taken ≤ preambleAt mode + 6
+  unfolding headStop
+  head-below =
+      row-below (ltb 0 (length s) && not (eqb (getD s 0 0) preamble)) no-preamble 1 _ (preambleAt mode + 6) (λ y. omega arith)
+      (row-below (eqb mode two-preambles && ltb 1 (length s) && not (eqb (getD s 1 0) preamble)) no-preamble 2 _ (preambleAt mode + 6) (λ y. omega arith)
+      (row-below (ltb (length s) (preambleAt mode + 6)) more (length s) (stop done (preambleAt mode + 6)) (preambleAt mode + 6)
+      (λ y. let l = ltb-true (length s) (preambleAt mode + 6) y in omega arith) (omega arith)))
+
+check-below : (control : ℕ) (s : List ℕ) (at : ℕ) → checkStop control s at .taken ≤ at + 1
+unfolding checkStop
+check-below control s at =
+    row-below (leb (length s) at) more (length s) _ (at + 1) (λ y. let l = leb-true (length s) at y in omega arith)
+    (row-below (not (eqb (getD s at 0) postamble) && not (eqb (getD s at 0) preamble)) bad-check-byte (at + 1) _ (at + 1) (λ y. omega arith)
+    (row-below (eqb (getD s at 0) preamble && B2 control) ends-here (at + 1) _ (at + 1) (λ y. omega arith)
+    (row-below (eqb (getD s at 0) preamble) last-device (at + 1) (stop done (at + 1)) (at + 1) (λ y. omega arith) (omega arith))))
+
+module _ (size mode : ℕ) (s : List ℕ) where
+  pub record Read : Type 0 where
+    pub head : preambleAt mode + 6 ≤ length s
+    pub windows : windowsStop size s (countAt s (preambleAt mode)) (preambleAt mode + 6) .number ≡ done
+
+  pub stream-done : streamStop size mode s .number ≡ done → Read
+  unfolding streamStop
+  stream-done h =
+      let w : ℕ → Stop = windowsStop size s (countAt s (preambleAt mode)) in
+      let a = then-done (headStop mode s then w) (checkStop (controlAt s (preambleAt mode)) s) h in
+      let b = then-done (headStop mode s) w (a .0) in
+      let d = head-done mode s (b .0) in
+      record { head = d .1; windows = ap (λ (e : Stop). w (e .taken) .number) (sym (d .0)) ∙ b .2 }
+
+  -- two preambles, five bytes more, 255 windows and the check byte, at most
+  pub stream-below : size ≤ 65535 → streamStop size mode s .taken ≤ 16712708
+  unfolding streamStop
+  stream-below l =
+      let w : ℕ → Stop = windowsStop size s (countAt s (preambleAt mode)) in
+      let p = preamble-small mode in
+      let h = head-below mode s in
+      let f = windows-reach size s l (countAt s (preambleAt mode)) (headStop mode s .taken) in
+      let g : (headStop mode s then w) .taken ≤ 16712707 = then-below (headStop mode s) w 16712707 (omega arith) (omega arith) in
+      let d = check-below (controlAt s (preambleAt mode)) s ((headStop mode s then w) .taken) in
+      then-below (headStop mode s then w) (checkStop (controlAt s (preambleAt mode)) s) 16712708 (omega arith) (omega arith)
+
+-- ---- the listing
+
+module _ (size mode : ℕ) (s : List ℕ) (a b c : ℕ) where
+  pub record Listable : Type 0 where
+    pub read : Read size mode s
+    pub stream : listStop size mode s a b c ≡ streamStop size mode s
+    pub starts-fit : countAt s (preambleAt mode) ≤ a
+    pub ends-fit : countAt s (preambleAt mode) ≤ b
+    pub offsets-fit : countAt s (preambleAt mode) ≤ c
+
+  pub list-done : listStop size mode s a b c .number ≡ done → Listable
+  unfolding listStop
+  list-done h =
+      let e : Stop = streamStop size mode s in
+      let n : ℕ = countAt s (preambleAt mode) in
+      let x = passes (eqb size 0) bad-chain 0 _ (λ z. omega (arith, z)) h in
+      let y = passes (not (from first-mode two-preambles mode)) bad-mode 0 _ (λ z. omega (arith, z)) (x .2) in
+      let r : (not (eqb (e .number) done) ≡ false) × _ = at-own (e .number) (e .taken) _ (y .2) in
+      let t = passes (anyShorter a b c n) too-short (e .taken) e (λ z. omega (arith, z)) (r .1 .1) in
+      let u = or-no (ltb a n || ltb b n) (ltb c n) (t .0) in
+      let v = or-no (ltb a n) (ltb b n) (u .0) in
+      record {
+        read = stream-done size mode s (t .2);
+        stream = x .1 ∙ y .1 ∙ r .1 .0 ∙ t .1;
+        starts-fit = ltb-false a n (v .0);
+        ends-fit = ltb-false b n (v .1);
+        offsets-fit = ltb-false c n (u .1);
+      }
+    where
+      at-own : (n t : ℕ) (e : Stop) → pick (not (eqb n done)) (stop n t) e .number ≡ done
+          → (not (eqb n done) ≡ false) × ((pick (not (eqb n done)) (stop n t) e ≡ e) × (e .number ≡ done))
+      at-own n t e h =
+          by-test (eqb n done) (λ y. (rw y, (rw y, rw y at h))) (λ y. absurd (eqb-false n done y (rw y at h)))
+
+  pub list-below : size ≤ 65535 → listStop size mode s a b c .taken < 2 ^ 32
+  unfolding listStop
+  list-below l =
+      let k = stream-below size mode s l in
+      let e : Stop = streamStop size mode s in
+      fits _
+      (row-below (eqb size 0) bad-chain 0 _ 16712708 (λ y. omega arith)
+      (row-below (not (from first-mode two-preambles mode)) bad-mode 0 _ 16712708 (λ y. omega arith)
+      (row-below (not (eqb (e .number) done)) (e .number) (e .taken) _ 16712708 (λ y. k)
+      (row-below (anyShorter a b c (countAt s (preambleAt mode))) too-short (e .taken) e 16712708 (λ y. k) k))))
+    where
+      fits : (t : ℕ) → t ≤ 16712708 → t < 2 ^ 32
+      fits t h = omega arith

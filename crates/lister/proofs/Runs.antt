@@ -1,0 +1,238 @@
+-- Windows as the machine takes them, in a write of any chain: the run stops where the reading stops, or goes on after it. Assumes nothing.
+use Prim.Native.Nat.{ℕ, zero, suc, _+_, _-_, _*_, _/_, _%_, _^_, _≤_, _<_}
+use mathlib.Core.Bool.{Bool, true, false, and-false}
+use mathlib.Core.Path.{_≡_, refl, sym, ap, _∙_}
+use mathlib.Core.List.{List, [], _∷_}
+use native.Mathlib.Omega.{arith}
+use native.Mathlib.Nat.{mod-add-mod, mul-div-left}
+use borrow.Author.Tests.{lt-ltb, le-ltb, le-leb, lt-leb, ltb-false, leb-true, leb-false, eqb-true, eqb-false}
+use lib.Dec.{eqb, ltb, leb, lit<}
+use lib.ListN.{length, getD, take, drop, length-drop}
+use lib.Seq.{sets, length-take-le}
+use Rattle.chain.specs.declared.Chain.{Chain}
+use Rattle.chain.specs.Paper.{at·null, at·start, at·start-low, at·end, at·end-low, at·data, at·check, opened, writing, done, bad-start, bad-end, more}
+use Rattle.chain.specs.Rules.{pick}
+use Rattle.chain.specs.Set.{with·place}
+use Rattle.chain.specs.Kinds.{sizeOf, baseOf}
+use Rattle.machine.specs.Byte.{sizeHere, numberOf, advanceOf, passedOf}
+use Rattle.machine.specs.Run.{Run, run, addressOf, memoryOf, registersOf, missedOf, ended, stepOf, runOf}
+use Rattle.machine.specs.Block.{missesOf, laidOf}
+use Rattle.machine.proofs.Feed.{run-at, run-end, run-over, run-part}
+use Rattle.machine.proofs.Block.{block, blockOf}
+use Rattle.lister.specs.declared.stream.Stop.{Stop}
+use Rattle.lister.specs.declared.window.ReadWindow.{ReadWindow}
+use Rattle.lister.specs.Stops.{stop}
+use Rattle.lister.specs.Windows.{startAt, endAt, nextAt, windowStop, readWindowOf, windowsStop, windowsOf}
+use Rattle.lister.proofs.Windows.{by-test, ways, Whole, is-whole}
+
+-- ---- any run
+
+-- bytes taken, as the machine counts them
+abbrev pub tick : ℕ → ℕ
+tick n = n % 2 ^ 32
+
+pub inc : (n : ℕ) → (n % 2 ^ 32 + 1) % 2 ^ 32 ≡ (n + 1) % 2 ^ 32
+inc n = mod-add-mod n (2 ^ 32) 1
+
+-- where a run came to
+abbrev pub endOf : Run → Stop
+endOf r = stop (r .number) (r .chain .place .taken)
+
+abbrev pub ticked : Stop → Stop
+ticked e = stop (e .number) (tick (e .taken))
+
+-- the byte at `at` ends the run
+pub run-ends : (c : Chain) (m s : List ℕ) (at n : ℕ) → at < length s → numberOf c (getD s at 0) ≡ n → eqb n more ≡ false
+    → endOf (runOf (run c m more) (drop at s)) ≡ stop n ((c .place .taken + 1) % 2 ^ 32)
+unfolding stepOf
+run-ends c m s at n h e z =
+    rw (run-at c m s at h, e, z, run-over (drop (at + 1) s) (run (ended c) m n) (eqb-false n more z))
+
+-- bytes that leave memory as it is, from `at` on: cs i is the chain after i of them
+module _ (m s : List ℕ) (cs : ℕ → Chain) (at : ℕ) where
+  pub run-on : (k : ℕ) → ((i : ℕ) → i < k → stepOf (cs i) m (getD s (at + i) 0) ≡ run (cs (i + 1)) m more) → at + k ≤ length s
+      → runOf (run (cs 0) m more) (drop at s) ≡ runOf (run (cs k) m more) (drop (at + k) s)
+  run-on zero h g =
+      let e : at + 0 ≡ at = omega arith in
+      rw e
+  run-on (suc k) h g =
+      let e : suc k ≡ k + 1 = omega arith in
+      let f : at + (k + 1) ≡ at + k + 1 = omega arith in
+      run-on k (λ i l. h i (omega arith)) (omega arith) ∙ run-at (cs k) m s (at + k) (omega arith) ∙ rw (h k (omega arith), e, f)
+
+  -- the slice is used up within them
+  pub run-dry : ((i : ℕ) → at + i < length s → stepOf (cs i) m (getD s (at + i) 0) ≡ run (cs (i + 1)) m more) → at ≤ length s
+      → runOf (run (cs 0) m more) (drop at s) ≡ run (cs (length s - at)) m more
+  run-dry h g =
+      run-on (length s - at) (λ i l. h i (omega arith)) (omega arith) ∙ run-end (cs (length s - at)) m s (at + (length s - at)) (omega arith)
+
+-- ---- a write of any chain, within a device
+
+abbrev pub inWrite : Chain → ℕ → ℕ → ℕ → ℕ → ℕ → ℕ → Chain
+inWrite c awaited left start end next taken =
+    with·place c
+    (record {
+      running = opened;
+      mode = c .place .mode;
+      check = writing;
+      device = c .place .device;
+      awaited = awaited;
+      left = left;
+      control = c .place .control;
+      start = start;
+      end = end;
+      next = next;
+      taken = taken;
+      mismatches = 0;
+    })
+
+-- n windows are left, and the byte at `at` is awaited: a null byte, or the check byte
+unfoldable pub waits : Chain → ℕ → ℕ → Chain
+waits c zero at = inWrite c at·check 0 0 0 0 (tick at)
+waits c (suc n) at = inWrite c at·null (suc n) 0 0 0 (tick at)
+
+cut : (a : ℕ) → a * 256 / 256 ≡ a
+cut a = mul-div-left a (lit< {m = 0} {n = 256} tt)
+
+-- the chain after i bytes of a window whose null byte stands at `at`, up to its first data byte
+shape : Chain → List ℕ → ℕ → ℕ → ℕ → ℕ → Chain
+shape c s n at zero = inWrite c at·null (suc n) 0 0 0
+shape c s n at (suc zero) = inWrite c at·start (suc n) 0 0 0
+shape c s n at (suc (suc zero)) = inWrite c at·start-low (suc n) (getD s (at + 1) 0 * 256) 0 0
+shape c s n at (suc (suc (suc zero))) = inWrite c at·end (suc n) (startAt s at) 0 0
+shape c s n at (suc (suc (suc (suc zero)))) = inWrite c at·end-low (suc n) (startAt s at) (getD s (at + 3) 0 * 256) 0
+shape c s n at (suc (suc (suc (suc (suc i))))) = inWrite c at·data (suc n) (startAt s at) (endAt s at) (startAt s at)
+
+module _ (c : Chain) (size : ℕ) (sz : sizeHere c ≡ size) (m s : List ℕ) (n at : ℕ) where
+  w : ℕ → Chain
+  unfolding shape
+  w i = shape c s n at i (tick (at + i))
+
+  w-taken : (i : ℕ) → w i .place .taken ≡ tick (at + i)
+  unfolding w shape
+  w-taken zero = refl
+  w-taken (suc zero) = refl
+  w-taken (suc (suc zero)) = refl
+  w-taken (suc (suc (suc zero))) = refl
+  w-taken (suc (suc (suc (suc zero)))) = refl
+  w-taken (suc (suc (suc (suc (suc i))))) = refl
+
+  w-step : (i : ℕ) → i < 5 → (2 ≤ i → startAt s at < size) → (4 ≤ i → (startAt s at ≤ endAt s at) × (endAt s at < size))
+      → stepOf (w i) m (getD s (at + i) 0) ≡ run (w (i + 1)) m more
+  unfolding w shape stepOf numberOf advanceOf registersOf memoryOf missedOf
+  w-step zero l f g =
+      let e : at + 0 + 1 ≡ at + 1 = omega arith in
+      simp (and-false, inc (at + 0), e)
+  w-step (suc zero) l f g =
+      let e : at + 1 + 1 ≡ at + 2 = omega arith in
+      simp (and-false, inc (at + 1), e)
+  w-step (suc (suc zero)) l f g =
+      let e : at + 2 + 1 ≡ at + 3 = omega arith in
+      simp (and-false, cut (getD s (at + 1) 0), sz, lt-ltb (startAt s at) size (f (omega arith)), inc (at + 2), e)
+  w-step (suc (suc (suc zero))) l f g =
+      let e : at + 3 + 1 ≡ at + 4 = omega arith in
+      simp (and-false, inc (at + 3), e)
+  w-step (suc (suc (suc (suc zero)))) l f g =
+      let e : at + 4 + 1 ≡ at + 5 = omega arith in
+      let h = g (omega arith) in
+      simp (and-false, cut (getD s (at + 3) 0), sz, le-ltb (endAt s at) (startAt s at) (h .0), lt-ltb (endAt s at) size (h .1), inc (at + 4), e)
+  w-step (suc (suc (suc (suc (suc i))))) l f g = absurd (omega (arith, l))
+
+  w-first : waits c (suc n) at ≡ w 0
+  unfolding waits w shape
+  w-first =
+      let e : at + 0 ≡ at = omega arith in
+      rw e
+
+  number-11 : size ≤ startAt s at → numberOf (w 2) (getD s (at + 2) 0) ≡ bad-start
+  unfolding w shape numberOf
+  number-11 h = simp (and-false, cut (getD s (at + 1) 0), sz, le-ltb (startAt s at) size h)
+
+  number-12 : (startAt s at ≤ endAt s at → size ≤ endAt s at) → numberOf (w 4) (getD s (at + 4) 0) ≡ bad-end
+  unfolding w shape numberOf
+  number-12 h =
+      by-test (ltb (endAt s at) (startAt s at)) (λ y. simp (and-false, cut (getD s (at + 3) 0), sz, y))
+      (λ y. simp (and-false, cut (getD s (at + 3) 0), sz, y, le-ltb (endAt s at) size (h (ltb-false (endAt s at) (startAt s at) y))))
+
+  -- the chain after k of its data bytes: on in the window, or after it
+  module _ (bs : List ℕ) where
+    block-within : startAt s at + length bs ≤ endAt s at → (i : ℕ) → blockOf (w 5) m i bs .place .taken ≡ tick (at + 5 + length bs)
+    unfolding w shape passedOf missesOf
+    block-within h i = rw (le-leb (startAt s at + length bs) (endAt s at) h, mod-add-mod (at + 5) (2 ^ 32) (length bs))
+
+  block-after : (bs : List ℕ) → length bs ≡ endAt s at - startAt s at + 1 → startAt s at ≤ endAt s at → (i : ℕ)
+      → blockOf (w 5) m i bs ≡ waits c n (nextAt s at)
+  unfolding w shape passedOf missesOf waits
+  block-after bs e h i =
+      rw (e, lt-leb (startAt s at + (endAt s at - startAt s at + 1)) (endAt s at) (omega arith), mod-add-mod (at + 5) (2 ^ 32) (endAt s at - startAt s at + 1))
+      (last n)
+    where
+      last : (n : ℕ)
+          → with·place c (pick (ltb 1 (suc n)) (inWrite c at·null (suc n - 1) 0 0 0 (tick (nextAt s at)) .place) (inWrite c at·check 0 0 0 0 (tick (nextAt s at)) .place))
+          ≡ waits c n (nextAt s at)
+      last zero = refl
+      last (suc n) =
+          let o : suc (suc n) - 1 ≡ suc n = omega arith in
+          rw (lt-ltb 1 (suc (suc n)) (omega arith), o)
+
+  data-on : startAt s at ≤ endAt s at → nextAt s at ≤ length s
+      → runOf (run (w 5) m more) (drop (at + 5) s)
+      ≡ runOf (run (waits c n (nextAt s at)) (sets m (baseOf (c .kinds) (c .place .device) + startAt s at) (take (endAt s at - startAt s at + 1) (drop (at + 5) s))) more)
+        (drop (nextAt s at) s)
+  unfolding w shape laidOf addressOf
+  data-on o l =
+      let k : ℕ = endAt s at - startAt s at + 1 in
+      let z : at + 5 + k - (at + 5) ≡ k = omega arith in
+      let e : length (take k (drop (at + 5) s)) ≡ k = length-take-le k (drop (at + 5) s) (omega (arith, length-drop (at + 5) s)) in
+      run-part (w 5) m s (at + 5) k _ (rw z (block (take k (drop (at + 5) s)) (w 5) m refl (omega arith) (omega arith)))
+      ∙ ap (λ (d : Chain). runOf (run d (sets m (baseOf (c .kinds) (c .place .device) + startAt s at) (take k (drop (at + 5) s))) more) (drop (nextAt s at) s))
+        (block-after (take k (drop (at + 5) s)) e o (addressOf (w 5)))
+
+  data-dry : startAt s at ≤ endAt s at → at + 5 ≤ length s → length s < nextAt s at
+      → endOf (runOf (run (w 5) m more) (drop (at + 5) s)) ≡ stop more (tick (length s))
+  unfolding w shape
+  data-dry o g h =
+      let e : length (drop (at + 5) s) ≡ length s - (at + 5) = length-drop (at + 5) s in
+      by-test (leb (length s) (at + 5))
+      (λ y. let q : at + 5 ≡ length s = omega (arith, leb-true (length s) (at + 5) y) in
+      rw (run-end (w 5) m s (at + 5) (leb-true (length s) (at + 5) y)) (ap (λ (t : ℕ). stop more (tick t)) q))
+      (λ y. let q = leb-false (length s) (at + 5) y in
+      let x : at + 5 + length (drop (at + 5) s) ≡ length s = omega arith in
+      rw (block (drop (at + 5) s) (w 5) m refl (omega arith) (omega arith))
+      (ap (λ (t : ℕ). stop more t) (block-within (drop (at + 5) s) (omega arith) (addressOf (w 5)) ∙ ap tick x)))
+
+  from-first : (x : Stop) → endOf (runOf (run (w 0) m more) (drop at s)) ≡ x → endOf (runOf (run (waits c (suc n) at) m more) (drop at s)) ≡ x
+  from-first x e = ap (λ (d : Chain). endOf (runOf (run d m more) (drop at s))) w-first ∙ e
+
+  -- the run stops where the reading of the window does
+  window-off : at ≤ length s → (windowStop size s at .number ≡ done → ⊥)
+      → endOf (runOf (run (waits c (suc n) at) m more) (drop at s)) ≡ ticked (windowStop size s at)
+  window-off g =
+      ways size s at (λ e. (e .number ≡ done → ⊥) → endOf (runOf (run (waits c (suc n) at) m more) (drop at s)) ≡ ticked e)
+      (λ l b z. let x : at + 2 + 1 ≡ at + 3 = omega arith in
+      from-first (stop bad-start (tick (at + 3)))
+      (rw (run-on m s w at 2 (λ i j. w-step i (omega arith) (λ q. absurd (omega (arith, q, j))) (λ q. absurd (omega (arith, q, j)))) (omega arith))
+      (run-ends (w 2) m s (at + 2) bad-start (omega arith) (number-11 b) refl ∙ rw (w-taken 2, inc (at + 2), x))))
+      (λ l a b z. let x : at + 4 + 1 ≡ at + 5 = omega arith in
+      from-first (stop bad-end (tick (at + 5)))
+      (rw (run-on m s w at 4 (λ i j. w-step i (omega arith) (λ q. a) (λ q. absurd (omega (arith, q, j)))) (omega arith))
+      (run-ends (w 4) m s (at + 4) bad-end (omega arith) (number-12 b) refl ∙ rw (w-taken 4, inc (at + 4), x))))
+      (λ f o h z. from-first (stop more (tick (length s)))
+      (by-test (leb (at + 5) (length s))
+      (λ y. let l : at + 5 ≤ length s = leb-true (at + 5) (length s) y in
+      rw (run-on m s w at 5 (λ i j. w-step i j (λ q. f (omega arith)) (λ q. o l)) l) (data-dry (o l .0) l h))
+      (λ y. let l : length s < at + 5 = leb-false (at + 5) (length s) y in
+      let x : at + (length s - at) ≡ length s = omega arith in
+      rw (run-dry m s w at (λ i j. w-step i (omega arith) (λ q. f (omega arith)) (λ q. o (omega arith))) g)
+      (ap (λ (t : ℕ). stop more t) (w-taken (length s - at) ∙ ap tick x)))))
+      (λ a b d l z. absurd (z refl))
+
+  window-on : Whole size s at
+      → runOf (run (waits c (suc n) at) m more) (drop at s)
+      ≡ runOf (run (waits c n (nextAt s at)) (sets m (baseOf (c .kinds) (c .place .device) + startAt s at) (take (endAt s at - startAt s at + 1) (drop (at + 5) s))) more)
+        (drop (nextAt s at) s)
+  window-on h =
+      let l = h .all-there in
+      ap (λ (d : Chain). runOf (run d m more) (drop at s)) w-first
+      ∙ run-on m s w at 5 (λ i j. w-step i j (λ q. h .start-inside) (λ q. (h .in-order, h .end-inside))) (omega arith)
+      ∙ data-on (h .in-order) l

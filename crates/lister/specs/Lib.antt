@@ -1,0 +1,3 @@
+pub mod Stops
+pub mod Windows
+pub mod Listing

@@ -1,0 +1,77 @@
+// One window of a stream, read where its null byte stands. Its data is skipped, so that a stream is read by its windows.
+use chain::paper::*;
+ghost use mathlib.Core.Path.{_≡_};
+ghost use Prim.Native.Nat.{_+_, _-_, _*_};
+ghost use Rattle.lister.specs.Windows.{readWindowOf};
+
+// The number; the window's bounds, where its first data byte stands, and the position after the last byte taken. Where
+// the number is not 0 the first three are 0, and the last is that of the refused byte and one more, or the stream's end.
+pub struct ReadWindow {
+    pub number: u8,
+    pub start: u16,
+    pub end: u16,
+    pub first: usize,
+    pub next: usize,
+}
+
+// How many bytes stand from a position on, 0 past the end.
+fn rest(len: usize, at: usize) -> usize
+    ensures { λ r. ⌜ r ≡ len - at ⌝ }
+{
+    if at <= len { len - at } else { 0 }
+}
+
+fn word(high: u8, low: u8) -> u16
+    ensures { λ r. ⌜ r ≡ high * 256 + low ⌝ }
+{
+    high as u16 * 256 + low as u16
+}
+
+fn stopped(number: u8, next: usize) -> ReadWindow
+    ensures { λ r. ⌜ r ≡ record { number = number; start = 0; end = 0; first = 0; next = next } ⌝ }
+{
+    ReadWindow {
+        number,
+        start: 0,
+        end: 0,
+        first: 0,
+        next,
+    }
+}
+
+// The window whose null byte is awaited at a position: 0 where it is whole, 11, 12, or 16 where the stream is used up.
+pub fn read_window(size: u16, s: &[u8], at: usize) -> ReadWindow
+    ensures { λ r. ⌜ r ≡ readWindowOf size (now (s .entry)) at ⌝ }
+{
+    let n = s.len();
+    let left = rest(n, at);
+    if left < 3 {
+        return stopped(MORE, n);
+    }
+    let start = word(s[at + 1], s[at + 2]);
+    if size <= start {
+        return stopped(BAD_START, at + 3);
+    }
+    if left < 5 {
+        return stopped(MORE, n);
+    }
+    let end = word(s[at + 3], s[at + 4]);
+    if end < start {
+        return stopped(BAD_END, at + 5);
+    }
+    if size <= end {
+        return stopped(BAD_END, at + 5);
+    }
+    let width = (end - start) as usize + 1;
+    if left - 5 < width {
+        return stopped(MORE, n);
+    }
+    let first = at + 5;
+    ReadWindow {
+        number: DONE,
+        start,
+        end,
+        first,
+        next: first + width,
+    }
+}
