@@ -8,3 +8,4 @@ pub mod Taken
 pub mod Stores
 pub mod Blind
 pub mod Cases
+pub mod Header

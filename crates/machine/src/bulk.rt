@@ -1,16 +1,20 @@
-// Data bytes taken as one block: large windows at the speed of a copy.
+// Data bytes taken as one block, large windows at the speed of a copy; and the five bytes before them at once.
 use crate::one_byte::passed;
 use cells::copy;
 use cells::differ;
 use chain::Chain;
 use chain::Place;
+use chain::eight::at8;
+use chain::kinds::size_of;
 use chain::paper::*;
 ghost use mathlib.Core.Path.{_≡_};
-ghost use Prim.Native.Nat.{_+_, _-_, _≤_, _<_};
+ghost use Prim.Native.Nat.{_+_, _-_, _*_, _≤_, _<_};
 ghost use lib.ListN.{length};
 ghost use Rattle.chain.specs.Paper.{at·data, more};
 ghost use Rattle.machine.specs.Run.{addressOf, counted, run, runOf};
-ghost use Rattle.machine.specs.Block.{laidOf, missesOf, Span};
+ghost use Rattle.machine.specs.Block.{laidOf, missesOf, Span, fitsOf, headedOf};
+ghost use Rattle.machine.specs.Byte.{sizeHere};
+ghost use Rattle.chain.specs.Set.{with·place};
 
 // n bytes more taken, k of them mismatches.
 pub fn counting(p: Place, n: u32, k: u32) -> Place
@@ -67,6 +71,37 @@ fn least(a: usize, b: usize) -> usize
     ensures { λ r. ⌜ (r ≤ a) × (r ≤ b) ⌝ }
 {
     if a < b { a } else { b }
+}
+
+// A number of two bytes, the high one first.
+pub fn pair(high: u8, low: u8) -> u16
+    ensures { λ r. ⌜ r ≡ high * 256 + low ⌝ }
+{
+    high as u16 * 256 + low as u16
+}
+
+// A window that the run's device has.
+pub fn fits(c: Chain, start: u16, end: u16) -> bool
+    ensures { λ r. ⌜ r ≡ fitsOf (sizeHere c) start end ⌝ }
+{
+    let ks = c.kinds;
+    let size = size_of(at8(ks, c.place.device));
+    (start < size) & (start <= end) & (end < size)
+}
+
+// The chain after a window's null byte, start and end.
+pub fn headed(c: Chain, start: u16, end: u16) -> Chain
+    ensures { λ r. ⌜ r ≡ with·place c (headedOf (c .place) start end) ⌝ }
+{
+    let p = c.place;
+    let mut q = counting(p, 5, 0);
+    q.start = start;
+    q.end = end;
+    q.next = start;
+    q.awaited = AT_DATA;
+    let mut d = c;
+    d.place = q;
+    d
 }
 
 // How many of the next data bytes go to memory, from the cell at on, as one block; 0 where the block is not all inside.

@@ -3,6 +3,9 @@ use crate::Answer;
 use crate::Fed;
 use crate::bulk::bulk;
 use crate::bulk::counting;
+use crate::bulk::fits;
+use crate::bulk::headed;
+use crate::bulk::pair;
 use crate::bulk::span;
 use crate::one_byte::advance;
 use crate::one_byte::number;
@@ -123,8 +126,8 @@ fn step(c: Chain, mem: &mut [u8], b: u8) -> Stepped
 }
 
 // Bytes of an open run, up to its end. Data bytes are taken as one block where it lies inside memory, as it does in every
-// sound state; all others, and any block that does not, go byte by byte. The step is called here alone, so that it is
-// compiled into the loop.
+// sound state, and the five bytes before them at once where the window fits; all others go byte by byte. The step is called
+// here alone, so that it is compiled into the loop.
 pub fn feed(c: Chain, mem: &mut [u8], s: &[u8]) -> Stepped
     ensures { λ r. ⌜ runOf (run c (now (mem .entry)) more) (now (s .entry)) ≡ run (r .chain) (now (mem .exit)) (r .number) ⌝ }
 {
@@ -142,6 +145,19 @@ pub fn feed(c: Chain, mem: &mut [u8], s: &[u8]) -> Stepped
                 d = f;
                 i = e;
                 continue;
+            }
+        }
+        if d.place.awaited == AT_NULL {
+            if 5 <= n - i {
+                let e = i + 5;
+                let start = pair(s[i + 1], s[i + 2]);
+                let end = pair(s[i + 3], s[i + 4]);
+                if fits(d, start, end) {
+                    let f = headed(d, start, end);
+                    d = f;
+                    i = e;
+                    continue;
+                }
             }
         }
         let b = s[i];

@@ -1,0 +1,19 @@
+use mathlib.Core.Path.{_≡_, refl, ap, sym, _∙_}
+use Rattle.chain.proofs.Tests.{tests}
+use borrow.Author.Needs.{needs}
+use Rattle.machine.proofs.bulk.headed.Statement.{statement}
+use Rattle.machine.proofs.bulk.headed.Tie as tie
+use Rattle.machine.proofs.bulk.headed.Reads as reads
+use Rattle.machine.proofs.bulk.headed.Lts as lts
+use Rattle.machine.proofs.bulk.counting.Reads as counting-reads
+
+-- src/bulk.rt:97:9
+counting-requires : tie.Need-counting-requires
+counting-requires c κs = search needs
+
+-- src/bulk.rt:93:1
+returns : tie.Need-returns
+returns c = simp ((c .counting .ensures))
+
+pub headed-spec : {M : Type 1} → statement M
+headed-spec = tie.close (tie.spec counting-requires returns)
