@@ -1,7 +1,14 @@
+pub mod Tests
+pub mod ByCases
+pub mod AllOf
+pub mod FirstOf
+pub mod Means
+pub mod Bytes
 pub mod Lookup
 pub mod Base
-pub mod Tests
+pub mod Sizes
 pub mod Turns
 pub mod Numbers
+pub mod WellFormed
+pub mod Sound
 pub mod Only
-pub mod Sizes

@@ -1,26 +1,29 @@
--- The law of closing bytes: in every sound state with an open run they end it, at exactly their last byte, and change no cell and no register; they
--- are at most size + 3. Assumes nothing.
-use Prim.Native.Nat.{ℕ, zero, suc, _+_, _-_, _/_, _*_, _<_, _≤_}
-use mathlib.Core.Bool.{Bool, true, false, _&&_}
+-- The law of closing bytes: in every state whose run the calls take as open they end it, at exactly their last byte, and change no cell and no
+-- register; they are at most size + 3. Assumes nothing.
+use Prim.Native.Nat.{ℕ, zero, suc, _+_, _-_, _/_, _*_, _%_, _^_, _<_, _≤_}
+use mathlib.Core.Bool.{false, _&&_}
 use mathlib.Core.Path.{_≡_, refl, ap, sym, subst, _∙_}
-use mathlib.Core.List.{List, [], _∷_, _++_}
+use mathlib.Core.List.{List, [], _∷_}
 use native.Mathlib.Nat.{not-suc-le-zero, div-add-mod'}
 use native.Mathlib.Omega.{arith}
 use lib.Dec.{eqb, ltb}
 use lib.ListN.{length, take, drop, length-append, length-take}
-use borrow.Author.Tests.{eqb-true, eqb-false, eq-eqb, ne-eqb, ltb-true, ltb-false}
+use borrow.Author.Tests.{eqb-true, eqb-false, ne-eqb, le-ltb, ltb-true, ltb-false}
+use Rattle.chain.proofs.ByCases.{by-test}
 use Rattle.chain.specs.declared.Chain.{Chain}
 use Rattle.chain.specs.declared.Place.{Place}
 use Rattle.chain.specs.Paper.{at·preamble, at·second, at·null, at·start, at·start-low, at·end, at·end-low, at·data, done, no-preamble, bad-start, bad-end, more}
-use Rattle.chain.specs.Rules.{pick, Rule, _gives_, firstOf, from}
+use Rattle.chain.specs.Rules.{Rule, _gives_, firstOf, from}
 use Rattle.chain.specs.Set.{with·place, closedPlace}
 use Rattle.chain.specs.Kinds.{baseOf}
 use Rattle.chain.specs.State.{openNumber}
 use Rattle.machine.specs.Run.{run, runOf}
-use Rattle.machine.specs.Calls.{fedOf, sliceOf, sliceMemory}
-use Rattle.closing.specs.Closing.{deviceSize, largest, present, tail, noEnd, nearest, closingBytes}
-use Rattle.closing.proofs.Ends.{by-test, Ends}
-use Rattle.closing.proofs.Rows.{tailNumber, nearest-fits, noEnd-false, ends-0, ends-1, ends-2, ends-3, ends-4, ends-5, ends-6, ends-7, ends-8, ends-9, ends-10, ends-11, ends-12, ends-13}
+use Rattle.machine.specs.Calls.{answered, fedOf, sliceOf, sliceMemory}
+use Rattle.closing.specs.Closing.{deviceSize, withFF, tail, window, refusesFF, endLow, closingBytes}
+use Rattle.closing.specs.Calls.{writtenNumber}
+use Rattle.closing.proofs.Meets.{number-open}
+use Rattle.closing.proofs.Ends.{Ends}
+use Rattle.closing.proofs.Rows.{takesFF, ends-0, ends-1, ends-2, ends-3, ends-4, ends-5, ends-6, ends-7, ends-8, ends-9, ends-10, ends-11, ends-12, ends-13}
 use Rattle.closing.proofs.Sound.{pick-all, Sound, sound}
 
 -- when the closing bytes end a run with a number other than 0: 5 at a preamble, 11 and 12 where FF FF is sent as a start or an end
@@ -29,10 +32,10 @@ endRules c =
     let p = c .place in
     (from at·preamble at·second (p .awaited) gives no-preamble)
     ∷ (from at·null at·start (p .awaited) gives bad-start)
-    ∷ (eqb (p .awaited) at·start-low && ltb (largest (p .start)) (deviceSize c) gives bad-end)
+    ∷ (eqb (p .awaited) at·start-low && ltb (withFF (p .start)) (deviceSize c) gives bad-end)
     ∷ (eqb (p .awaited) at·start-low gives bad-start)
     ∷ (eqb (p .awaited) at·end gives bad-end)
-    ∷ (eqb (p .awaited) at·end-low && noEnd c gives bad-end)
+    ∷ (eqb (p .awaited) at·end-low && refusesFF c gives bad-end)
     ∷ (from at·end-low at·data (p .awaited) && ltb 1 (p .left) gives bad-start)
     ∷ []
 
@@ -63,7 +66,7 @@ below P (suc n) t a h =
 
 module _ (c : Chain) (m : List ℕ) where
   -- at the awaited byte a the closing bytes end the run, and are short
-  pub record Row (a : ℕ) : Type 0 where
+  record Closed-at (a : ℕ) : Type 0 where
     pub ends : c .place .awaited ≡ a → Ends c m (closingBytes c m) (closingNumber c)
     pub short : c .place .awaited ≡ a → length (closingBytes c m) ≤ deviceSize c + 3
 
@@ -77,56 +80,56 @@ module _ (c : Chain) (m : List ℕ) (s : Sound c m) where
   least : 52 ≤ deviceSize c
   least = s .least
 
-  row-0 : Row c m 0
+  row-0 : Closed-at c m 0
   unfolding closingBytes closingNumber
   row-0 = record { ends = λ e. shaped c m (ends-0 c m e) (rw e) (rw e); short = λ e. rw e (omega arith) }
 
-  row-1 : Row c m 1
+  row-1 : Closed-at c m 1
   unfolding closingBytes closingNumber
   row-1 = record { ends = λ e. shaped c m (ends-1 c m e) (rw e) (rw e); short = λ e. rw e (omega arith) }
 
-  row-2 : Row c m 2
+  row-2 : Closed-at c m 2
   unfolding closingBytes closingNumber
   row-2 =
       record { ends = λ e. shaped c m (ends-2 c m e (s .register e)) (rw e) (rw e); short = λ e. rw e (omega (arith, least)) }
 
-  row-3 : Row c m 3
+  row-3 : Closed-at c m 3
   unfolding closingBytes closingNumber
   row-3 = record { ends = λ e. shaped c m (ends-3 c m e) (rw e) (rw e); short = λ e. rw e (omega (arith, least)) }
 
-  row-4 : Row c m 4
+  row-4 : Closed-at c m 4
   unfolding closingBytes closingNumber
   row-4 = record { ends = λ e. shaped c m (ends-4 c m e) (rw e) (rw e); short = λ e. rw e (omega (arith, least)) }
 
-  row-5 : Row c m 5
+  row-5 : Closed-at c m 5
   unfolding closingBytes closingNumber
   row-5 = record { ends = λ e. shaped c m (ends-5 c m e) (rw e) (rw e); short = λ e. rw e (omega arith) }
 
-  row-6 : Row c m 6
+  row-6 : Closed-at c m 6
   unfolding closingBytes closingNumber
   row-6 = record { ends = λ e. shaped c m (ends-6 c m e) (rw e) (rw e); short = λ e. rw e (omega arith) }
 
-  row-7 : Row c m 7
+  row-7 : Closed-at c m 7
   unfolding closingBytes closingNumber
   row-7 = record { ends = λ e. shaped c m (ends-7 c m small e) (rw e) (rw e); short = λ e. rw e (omega arith) }
 
-  row-8 : Row c m 8
+  row-8 : Closed-at c m 8
   unfolding closingBytes closingNumber
   row-8 = record { ends = λ e. shaped c m (ends-8 c m small e) (rw e) (rw e); short = λ e. rw e (omega arith) }
 
-  row-9 : Row c m 9
+  row-9 : Closed-at c m 9
   unfolding closingBytes closingNumber
   row-9 =
       record {
         ends = λ e. shaped c m (ends-9 c m small e) (rw e) (rw e);
-        short = λ e. rw e (by-test (ltb (largest (c .place .start)) (deviceSize c)) (λ q. rw q (omega arith)) (λ q. rw q (omega arith)));
+        short = λ e. rw e (by-test (ltb (withFF (c .place .start)) (deviceSize c)) (λ q. rw q (omega arith)) (λ q. rw q (omega arith)));
       }
 
-  row-10 : Row c m 10
+  row-10 : Closed-at c m 10
   unfolding closingBytes closingNumber
   row-10 = record { ends = λ e. shaped c m (ends-10 c m small e) (rw e) (rw e); short = λ e. rw e (omega arith) }
 
-  row-13 : Row c m 13
+  row-13 : Closed-at c m 13
   unfolding closingBytes closingNumber
   row-13 = record { ends = λ e. shaped c m (ends-13 c m e) (rw e) (rw e); short = λ e. rw e (omega arith) }
 
@@ -134,16 +137,16 @@ module _ (c : Chain) (m : List ℕ) (s : Sound c m) where
   tail-short : (p : Place) → length (tail p) ≤ 3
   tail-short p = by-test (ltb 1 (p .left)) (λ q. rw q (omega arith)) (λ q. rw q (omega arith))
 
-  window-short : (first last : ℕ) → length (present c m first last ++ tail (c .place)) ≤ last - first + 4
+  window-short : (first last : ℕ) → length (window c m first last) ≤ last - first + 4
   window-short first last =
       omega (
         arith,
-        length-append (present c m first last) (tail (c .place)),
+        length-append (take (last - first + 1) (drop (baseOf (c .kinds) (c .place .device) + first) m)) (tail (c .place)),
         length-take (last - first + 1) (drop (baseOf (c .kinds) (c .place .device) + first) m),
         tail-short (c .place),
       )
 
-  row-12 : Row c m 12
+  row-12 : Closed-at c m 12
   unfolding closingBytes closingNumber
   row-12 =
       record {
@@ -155,36 +158,36 @@ module _ (c : Chain) (m : List ℕ) (s : Sound c m) where
             rw e (omega (arith, window-short (c .place .next) (c .place .end)));
       }
 
-  -- the window that the nearest end makes leaves room for one byte more
-  nearest-short : (p : Place) → largest (p .end) < deviceSize c → p .start ≤ largest (p .end)
-      → p .end / 256 * 256 + nearest p - p .start + 2 ≤ deviceSize c
-  nearest-short p l g =
+  -- the window up to the end that the low byte makes leaves room for one byte more
+  end-short : (p : Place) → withFF (p .end) < deviceSize c → p .start ≤ withFF (p .end)
+      → p .end / 256 * 256 + endLow p - p .start + 2 ≤ deviceSize c
+  end-short p l g =
       by-test (eqb (p .end / 256) (p .start / 256))
       (λ q. rw q (omega (arith, least, eqb-true (p .end / 256) (p .start / 256) q, div-add-mod' (p .start) 256)))
       (λ q. rw q (omega arith))
 
-  row-11 : Row c m 11
+  row-11 : Closed-at c m 11
   unfolding closingBytes closingNumber
   row-11 =
       record {
         ends = λ e. shaped c m (ends-11 c m small e (s .inside)) (rw e) (rw e);
-        short = λ e. rw e (by-test (noEnd c) (λ q. rw q (omega arith)) (λ q. rw q (window q)));
+        short = λ e. rw e (by-test (refusesFF c) (λ q. rw q (omega arith)) (λ q. rw q (fits q)));
       }
     where
-      window : noEnd c ≡ false
-          → suc (length (present c m (c .place .start) (c .place .end / 256 * 256 + nearest (c .place)) ++ tail (c .place))) ≤ deviceSize c + 3
-      window q =
+      fits : refusesFF c ≡ false
+          → suc (length (window c m (c .place .start) (c .place .end / 256 * 256 + endLow (c .place)))) ≤ deviceSize c + 3
+      fits q =
           let p = c .place in
-          let t = noEnd-false (ltb (largest (p .end)) (deviceSize c)) (ltb (largest (p .end)) (p .start)) q in
+          let t = takesFF (ltb (withFF (p .end)) (deviceSize c)) (ltb (withFF (p .end)) (p .start)) q in
           omega (
             arith,
-            nearest-short p (ltb-true (largest (p .end)) (deviceSize c) (t .0)) (ltb-false (largest (p .end)) (p .start) (t .1)),
-            window-short (p .start) (p .end / 256 * 256 + nearest p),
+            end-short p (ltb-true (withFF (p .end)) (deviceSize c) (t .0)) (ltb-false (withFF (p .end)) (p .start) (t .1)),
+            window-short (p .start) (p .end / 256 * 256 + endLow p),
           )
 
-  every : Row c m (c .place .awaited)
+  every : Closed-at c m (c .place .awaited)
   every =
-      below (Row c m) 14
+      below (Closed-at c m) 14
       ((((((((((((((tt, row-0), row-1), row-2), row-3), row-4), row-5), row-6), row-7), row-8), row-9), row-10), row-11), row-12), row-13)
       (c .place .awaited) (s .awaited)
 
@@ -203,32 +206,41 @@ never-more c =
     first-over (endRules c) done (omega arith)
     (omega arith, (omega arith, (omega arith, (omega arith, (omega arith, (omega arith, (omega arith, tt)))))))
 
--- the law, for every chain, memory and place that the calls take as open; the struct holds eight kinds
+-- ---- the law
+
+-- for every chain, place and memory that the calls take as an open run; the struct holds eight kinds
 pub closes : (c : Chain) (m : List ℕ) → length (c .kinds) ≡ 8 → openNumber c (length m) ≡ done → Closes c m
 closes c m eight h =
     let r = every c m (sound c m h eight) in
     let e = r .ends refl in
     record {
-      number = e .number;
+      number = rw (e .is);
       over = never-more c;
-      memory = e .memory;
-      registers = ap (λ (d : Chain). d .registers) (e .chain);
+      memory = rw (e .is);
+      registers = rw (e .is) (ap (λ (d : Chain). d .registers) (e .along .chain));
       late = e .late;
       short = r .short refl;
     }
 
--- the same of the slice call: it answers that number, no run is open then, and state and memory are else as they were
+-- all that the slice call answers and leaves: every byte counted, no mismatch more, no run open, and else all as it was
 pub record SliceCloses (c : Chain) (m : List ℕ) : Type 0 where
-  pub number : sliceOf c m (closingBytes c m) .answer .number ≡ closingNumber c
-  pub chain : sliceOf c m (closingBytes c m) .chain ≡ with·place c closedPlace
+  pub fed : sliceOf c m (closingBytes c m)
+      ≡ answered (with·place c closedPlace) (closingNumber c) ((c .place .taken + length (closingBytes c m)) % 2 ^ 32) (c .place .mismatches % 2 ^ 32)
   pub memory : sliceMemory c m (closingBytes c m) ≡ m
 
 pub slice-closes : (c : Chain) (m : List ℕ) → length (c .kinds) ≡ 8 → openNumber c (length m) ≡ done → SliceCloses c m
 unfolding sliceOf sliceMemory fedOf
 slice-closes c m eight h =
     let e = every c m (sound c m h eight) .ends refl in
+    let z : c .place .mismatches + 0 ≡ c .place .mismatches = omega arith in
     record {
-      number = rw (h) (e .number);
-      chain = rw (h, e .number, ne-eqb (closingNumber c) more (never-more c)) (e .chain);
-      memory = rw (h) (e .memory);
+      fed = rw (h, e .is, ne-eqb (closingNumber c) more (never-more c), e .along .chain, e .along .taken, e .along .mismatches, z);
+      memory = rw (h, e .is);
     }
+
+-- an output of size + 3 bytes is never too short
+pub room-enough : (c : Chain) (m : List ℕ) (room : ℕ) → length (c .kinds) ≡ 8 → openNumber c (length m) ≡ done → deviceSize c + 3 ≤ room
+    → writtenNumber c m room ≡ done
+room-enough c m room eight h l =
+    let s = closes c m eight h .short in
+    number-open c m room h ∙ rw (le-ltb room (length (closingBytes c m)) (omega arith))

@@ -1,5 +1,5 @@
 -- The closing call meets its promise: refused by the state's own numbers, or as the bytes are put. Assumes nothing.
-use Prim.Native.Nat.{ℕ, _<_, _≤_}
+use Prim.Native.Nat.{ℕ}
 use mathlib.Core.Bool.{Bool, true, false}
 use mathlib.Core.Path.{_≡_, refl, sym, _∙_}
 use mathlib.Core.List.{List, [], _∷_, _++_}
@@ -44,6 +44,7 @@ module _ (c : Chain) (m out : List ℕ) where
       answers : (b : Bool) (n : ℕ) → pick b (written too-short 0) (written done n) ≡ written (pick b too-short done) (pick (eqb (pick b too-short done) done) n 0)
       answers true n = refl
       answers false n = refl
+
       outputs : (b : Bool) (xs : List ℕ) → pick b out xs ≡ pick (eqb (pick b too-short done) done) xs out
       outputs true xs = refl
       outputs false xs = refl

@@ -1,6 +1,6 @@
 -- Parts of a list, read as far as it goes, and bytes written over a part of it. Assumes nothing.
 use Prim.Native.Nat.{ℕ, suc, _+_, _-_, _<_, _≤_}
-use mathlib.Core.Path.{_≡_, refl, ap, sym, _∙_}
+use mathlib.Core.Path.{_≡_, sym, _∙_}
 use mathlib.Core.Logic.{_⊎_, ⊎-elim}
 use mathlib.Core.List.{List, [], _∷_, _++_, append-assoc, append-nil}
 use native.Mathlib.Nat.{zero-add}
@@ -9,7 +9,6 @@ use borrow.Author.Tests.{lt-ltb, le-ltb}
 use borrow.Rule.Slice.PartMut.{putMid, post-is}
 use lib.ListN.{length, set, take, drop, length-append, length-take, length-drop, drop-of-length-le}
 use lib.Seq.{sets, sets-eq, take-all, drop-drop, drop-length}
-use Rattle.chain.specs.declared.Written.{Written}
 use Rattle.chain.specs.Paper.{done, too-short}
 use Rattle.closing.specs.Put.{written, Put}
 
@@ -22,9 +21,11 @@ module _ (m : List ℕ) (at n a k : ℕ) (h : a ≤ at) (l : a ≤ length m) (f 
     where
       whole : a ≡ at → k ≡ n → take k (drop a m) ≡ take n (drop at m)
       whole e w = rw (e, w)
+
       rest : a ≡ at → k ≡ length m - a → take k (drop a m) ≡ take n (drop at m)
       rest e w =
           rw (← e) (take-all k (drop a m) (omega (arith, length-drop a m)) ∙ sym (take-all n (drop a m) (omega (arith, length-drop a m))))
+
       past : a ≡ length m → take k (drop a m) ≡ take n (drop at m)
       past e =
           let p : length m ≤ a = omega arith in

@@ -1,26 +1,27 @@
 -- Each row of closing bytes ends a run that awaits its byte: by the byte's own step and the row of the byte after it. Assumes nothing.
-use Prim.Native.Nat.{ℕ, suc, _+_, _-_, _*_, _/_, _%_, _<_, _≤_}
+use Prim.Native.Nat.{ℕ, _+_, _-_, _*_, _/_, _<_, _≤_}
 use mathlib.Core.Bool.{Bool, true, false, not, _&&_, _||_, and-false, or-true, or-comm, true≢false}
-use mathlib.Core.Path.{_≡_, refl, ap, sym, _∙_}
-use mathlib.Core.List.{List, [], _∷_, _++_}
+use mathlib.Core.Path.{_≡_, refl, _∙_}
+use mathlib.Core.List.{List, [], _∷_}
 use native.Mathlib.Nat.{div-add-mod', mod-lt}
 use native.Mathlib.Omega.{arith}
 use lib.Dec.{eqb, ltb, leb, lit<}
-use lib.ListN.{length, getD, set, take, drop, length-drop}
+use lib.ListN.{length, getD, take, drop, length-drop}
 use lib.Seq.{set-getD, length-take-le}
 use borrow.Author.Tests.{lt-ltb, le-ltb, lt-leb, eqb-true, eqb-false, ltb-true, ltb-false}
+use Rattle.chain.proofs.ByCases.{by-test}
 use Rattle.chain.specs.declared.Chain.{Chain}
 use Rattle.chain.specs.declared.Place.{Place}
-use Rattle.chain.specs.Paper.{postamble, no-windows, at·preamble, at·second, at·control, at·address, at·address2, at·address3, at·count, at·null, at·start, at·start-low, at·end, at·end-low, at·data, at·check, writing, checking, done, no-preamble, bad-start, bad-end, more, B3}
+use Rattle.chain.specs.Paper.{postamble, no-windows, at·preamble, at·second, at·control, at·address, at·address2, at·address3, at·count, at·null, at·start, at·start-low, at·end, at·end-low, at·data, at·check, writing, done, no-preamble, bad-start, bad-end, more, B3}
 use Rattle.chain.specs.Rules.{pick}
-use Rattle.chain.specs.Set.{with·awaited, with·left, with·control, with·start, with·end, with·next, with·place, closedPlace}
+use Rattle.chain.specs.Set.{with·awaited, with·left, with·control, with·start, with·end, with·next, with·place}
 use Rattle.chain.specs.Kinds.{sizeOf, baseOf}
 use Rattle.machine.specs.Byte.{awaits, checks, sizeHere, withLow, badStart, badEnd, noWindow, numberOf, passedOf, advanceOf}
-use Rattle.machine.specs.Run.{addressOf, memoryOf, registersOf, missedOf, counted, Run, run, stepOf, runOf}
-use Rattle.machine.specs.Block.{missesOf, laidOf}
-use Rattle.machine.proofs.Block.{blockOf, block, laid-same}
-use Rattle.closing.specs.Closing.{deviceSize, storedRegister, largest, present, tail, noEnd, nearest}
-use Rattle.closing.proofs.Ends.{by-test, Ends, ends-last, ends-after, ends-step}
+use Rattle.machine.specs.Run.{addressOf, memoryOf, registersOf, missedOf, counted, run, stepOf, runOf}
+use Rattle.machine.specs.Block.{missesOf}
+use Rattle.machine.proofs.Block.{blockOf, block, misses-same, laid-same}
+use Rattle.closing.specs.Closing.{deviceSize, storedRegister, withFF, tail, window, afterStart, refusesFF, endLow, afterEnd}
+use Rattle.closing.proofs.Ends.{Along, Ends, ends-last, ends-after, ends-step}
 
 -- one byte more taken
 abbrev next : Chain → Place
@@ -109,21 +110,21 @@ module _ (c : Chain) (m : List ℕ) where
   ends-13 e = ends-last c m done postamble (simp (e, and-false)) (omega arith)
 
 pub ends-6 : (c : Chain) (m : List ℕ) → c .place .awaited ≡ at·count → Ends c m (no-windows ∷ postamble ∷ []) done
-ends-6 c m e = ends-step c m done _ no-windows (postamble ∷ []) (step-6 c m e) refl (ends-13 _ m refl)
+ends-6 c m e = ends-step c m done _ no-windows (postamble ∷ []) (step-6 c m e) refl refl (ends-13 _ m refl)
 
 pub ends-5 : (c : Chain) (m : List ℕ) → c .place .awaited ≡ at·address3 → Ends c m (0x00 ∷ no-windows ∷ postamble ∷ []) done
-ends-5 c m e = ends-step c m done _ 0x00 (no-windows ∷ postamble ∷ []) (step-5 c m 0x00 e) refl (ends-6 _ m refl)
+ends-5 c m e = ends-step c m done _ 0x00 (no-windows ∷ postamble ∷ []) (step-5 c m 0x00 e) refl refl (ends-6 _ m refl)
 
 pub ends-4 : (c : Chain) (m : List ℕ) → c .place .awaited ≡ at·address2 → Ends c m (0x00 ∷ 0x00 ∷ no-windows ∷ postamble ∷ []) done
-ends-4 c m e = ends-step c m done _ 0x00 (0x00 ∷ no-windows ∷ postamble ∷ []) (step-4 c m 0x00 e) refl (ends-5 _ m refl)
+ends-4 c m e = ends-step c m done _ 0x00 (0x00 ∷ no-windows ∷ postamble ∷ []) (step-4 c m 0x00 e) refl refl (ends-5 _ m refl)
 
 pub ends-3 : (c : Chain) (m : List ℕ) → c .place .awaited ≡ at·address → Ends c m (0x00 ∷ 0x00 ∷ 0x00 ∷ no-windows ∷ postamble ∷ []) done
-ends-3 c m e = ends-step c m done _ 0x00 (0x00 ∷ 0x00 ∷ no-windows ∷ postamble ∷ []) (step-3 c m 0x00 e) refl (ends-4 _ m refl)
+ends-3 c m e = ends-step c m done _ 0x00 (0x00 ∷ 0x00 ∷ no-windows ∷ postamble ∷ []) (step-3 c m 0x00 e) refl refl (ends-4 _ m refl)
 
 pub ends-2 : (c : Chain) (m : List ℕ) → c .place .awaited ≡ at·control → (checks c && B3 (storedRegister c)) ≡ false
     → Ends c m (storedRegister c ∷ 0x00 ∷ 0x00 ∷ 0x00 ∷ no-windows ∷ postamble ∷ []) done
 ends-2 c m e h =
-    ends-step c m done _ (storedRegister c) (0x00 ∷ 0x00 ∷ 0x00 ∷ no-windows ∷ postamble ∷ []) (step-2 c m e h) refl (ends-3 _ m refl)
+    ends-step c m done _ (storedRegister c) (0x00 ∷ 0x00 ∷ 0x00 ∷ no-windows ∷ postamble ∷ []) (step-2 c m e h) refl refl (ends-3 _ m refl)
 
 -- a start or an end that is out of its bounds
 module _ (c : Chain) (m : List ℕ) (b : ℕ) where
@@ -138,22 +139,22 @@ module _ (c : Chain) (m : List ℕ) (b : ℕ) where
 -- FF FF is no start and no end of any device
 pub ends-8 : (c : Chain) (m : List ℕ) → sizeHere c ≤ 65535 → c .place .awaited ≡ at·start → Ends c m (0xff ∷ 0xff ∷ []) bad-start
 ends-8 c m s e =
-    ends-step c m bad-start _ 0xff (0xff ∷ []) (step-8 c m 0xff e) refl
+    ends-step c m bad-start _ 0xff (0xff ∷ []) (step-8 c m 0xff e) refl refl
     (ends-start _ m 0xff refl (rw (le-ltb 65535 (sizeHere c) s)))
 
 pub ends-7 : (c : Chain) (m : List ℕ) → sizeHere c ≤ 65535 → c .place .awaited ≡ at·null → Ends c m (0x00 ∷ 0xff ∷ 0xff ∷ []) bad-start
-ends-7 c m s e = ends-step c m bad-start _ 0x00 (0xff ∷ 0xff ∷ []) (step-7 c m 0x00 e) refl (ends-8 _ m s refl)
+ends-7 c m s e = ends-step c m bad-start _ 0x00 (0xff ∷ 0xff ∷ []) (step-7 c m 0x00 e) refl refl (ends-8 _ m s refl)
 
 pub ends-10 : (c : Chain) (m : List ℕ) → sizeHere c ≤ 65535 → c .place .awaited ≡ at·end → Ends c m (0xff ∷ 0xff ∷ []) bad-end
 ends-10 c m s e =
-    ends-step c m bad-end _ 0xff (0xff ∷ []) (step-10 c m 0xff e) refl
+    ends-step c m bad-end _ 0xff (0xff ∷ []) (step-10 c m 0xff e) refl refl
     (ends-end _ m 0xff refl (rw (le-ltb 65535 (sizeHere c) s, or-true)))
 
 pub ends-9 : (c : Chain) (m : List ℕ) → sizeHere c ≤ 65535 → c .place .awaited ≡ at·start-low
-    → Ends c m (0xff ∷ pick (ltb (largest (c .place .start)) (deviceSize c)) (0xff ∷ 0xff ∷ []) []) (pick (ltb (largest (c .place .start)) (deviceSize c)) bad-end bad-start)
+    → Ends c m (afterStart c) (pick (ltb (withFF (c .place .start)) (deviceSize c)) bad-end bad-start)
 ends-9 c m s e =
-    by-test (ltb (largest (c .place .start)) (deviceSize c))
-    (λ q. rw q (ends-step c m bad-end _ 0xff (0xff ∷ 0xff ∷ []) (step-9 c m 0xff e (rw q)) refl (ends-10 _ m s refl)))
+    by-test (ltb (withFF (c .place .start)) (deviceSize c))
+    (λ q. rw q (ends-step c m bad-end _ 0xff (0xff ∷ 0xff ∷ []) (step-9 c m 0xff e (rw q)) refl refl (ends-10 _ m s refl)))
     (λ q. rw q (ends-start c m 0xff e (rw q)))
 
 -- ---- the rows with cells
@@ -164,6 +165,13 @@ window-over : (p : Place) (n : ℕ) → p .end < p .next + n
 unfolding passedOf
 window-over p n h = rw (lt-leb (p .next + n) (p .end) h)
 
+-- data bytes leave the counts alone
+passed-keeps : (f : Place → ℕ) (p : Place) (n : ℕ) → f (with·next p (p .next + n)) ≡ f p → f (with·awaited (with·left (noWindow p) (p .left - 1)) at·null) ≡ f p
+    → f (with·awaited (with·left (noWindow p) 0) at·check) ≡ f p → f (passedOf p n) ≡ f p
+unfolding passedOf
+passed-keeps f p n x y z =
+    by-test (leb (p .next + n) (p .end)) (λ q. rw q x) (λ q. rw q (by-test (ltb 1 (p .left)) (λ r. rw r y) (λ r. rw r z)))
+
 -- with what a run ends that goes on after the current window
 abbrev pub tailNumber : Place → ℕ
 tailNumber p = pick (ltb 1 (p .left)) bad-start done
@@ -173,9 +181,20 @@ ends-tail : (c : Chain) (m : List ℕ) (p : Place) (n : ℕ) → sizeOf (getD (c
 ends-tail c m p n s h =
     rw (window-over p n h) (by-test (ltb 1 (p .left)) (λ q. rw q (ends-7 _ m s refl)) (λ q. rw q (ends-13 _ m refl)))
 
+-- present cells, fed back, are taken and none is missed
+module _ (c : Chain) (m bs : List ℕ) (i : ℕ) (h : missesOf (c .place .check) m i bs ≡ 0) where
+  block-along : Along c (blockOf c m i bs) (length bs)
+  block-along =
+      let p : Place = counted (c .place) (length bs) (missesOf (c .place .check) m i bs) in
+      record {
+        chain = refl;
+        taken = passed-keeps (λ (q : Place). q .taken) p (length bs) refl refl refl;
+        mismatches = passed-keeps (λ (q : Place). q .mismatches) p (length bs) refl refl refl ∙ rw h;
+      }
+
 pub ends-12 : (c : Chain) (m : List ℕ) → sizeHere c ≤ 65535 → c .place .awaited ≡ at·data → c .place .next ≤ c .place .end
     → baseOf (c .kinds) (c .place .device) + c .place .end < length m
-    → Ends c m (present c m (c .place .next) (c .place .end) ++ tail (c .place)) (tailNumber (c .place))
+    → Ends c m (window c m (c .place .next) (c .place .end)) (tailNumber (c .place))
 unfolding addressOf
 ends-12 c m s e f g =
     let p : Place = c .place in
@@ -184,37 +203,35 @@ ends-12 c m s e f g =
     let bs : List ℕ = take n (drop i m) in
     let l : length bs ≡ n = length-take-le n (drop i m) (omega (arith, length-drop i m)) in
     let w : runOf (run c m more) bs ≡ run (blockOf c m i bs) m more =
-        block bs c m e (omega arith) (omega arith) ∙ rw (laid-same m i n (omega arith) (p .check)) in
-    ends-after c m (tailNumber p) (blockOf c m i bs) bs (tail p) w refl
+    block bs c m e (omega arith) (omega arith) ∙ rw (laid-same m i n (omega arith) (p .check)) in
+    ends-after c m (tailNumber p) (blockOf c m i bs) bs (tail p) w (block-along c m bs i (misses-same m i n (omega arith) (p .check)))
     (ends-tail c m (counted p (length bs) (missesOf (p .check) m i bs)) (length bs) s (omega arith))
 
 -- the end that the low byte makes
-module _ (p : Place) (size : ℕ) (l : largest (p .end) < size) (g : p .start ≤ largest (p .end)) where
-  pub nearest-fits : (p .start ≤ p .end / 256 * 256 + nearest p) × (p .end / 256 * 256 + nearest p < size)
-  nearest-fits =
+module _ (p : Place) (size : ℕ) (l : withFF (p .end) < size) (g : p .start ≤ withFF (p .end)) where
+  pub end-fits : (p .start ≤ p .end / 256 * 256 + endLow p) × (p .end / 256 * 256 + endLow p < size)
+  end-fits =
       by-test (eqb (p .end / 256) (p .start / 256))
       (λ q. rw q (omega (arith, eqb-true (p .end / 256) (p .start / 256) q, div-add-mod' (p .start) 256)))
       (λ q. rw q (omega (arith, eqb-false (p .end / 256) (p .start / 256) q, div-add-mod' (p .start) 256, mod-lt (p .start) (lit< {m = 0} {n = 256} tt))))
 
--- FF is no end, or the nearest end is taken and the window is closed by its present cells
-pub noEnd-false : (a b : Bool) → (not a || b) ≡ false → (a ≡ true) × (b ≡ false)
-noEnd-false true b h = (refl, h)
-noEnd-false false b h = absurd (true≢false h)
+-- FF is no end, or the endLow end is taken and the window is closed by its present cells
+pub takesFF : (a b : Bool) → (not a || b) ≡ false → (a ≡ true) × (b ≡ false)
+takesFF true b h = (refl, h)
+takesFF false b h = absurd (true≢false h)
 
 pub ends-11 : (c : Chain) (m : List ℕ) → sizeHere c ≤ 65535 → c .place .awaited ≡ at·end-low
     → baseOf (c .kinds) (c .place .device) + sizeHere c ≤ length m
-    → Ends c m
-    (pick (noEnd c) (0xff ∷ []) (nearest (c .place) ∷ present c m (c .place .start) (c .place .end / 256 * 256 + nearest (c .place)) ++ tail (c .place)))
-    (pick (noEnd c) bad-end (tailNumber (c .place)))
+    → Ends c m (afterEnd c m) (pick (refusesFF c) bad-end (tailNumber (c .place)))
 ends-11 c m s e i =
-    by-test (noEnd c)
-    (λ q. rw q (ends-end c m 0xff e (or-comm (ltb (largest (c .place .end)) (c .place .start)) (not (ltb (largest (c .place .end)) (sizeHere c))) ∙ q)))
+    by-test (refusesFF c)
+    (λ q. rw q (ends-end c m 0xff e (or-comm (ltb (withFF (c .place .end)) (c .place .start)) (not (ltb (withFF (c .place .end)) (sizeHere c))) ∙ q)))
     (λ q.
     let p : Place = c .place in
-    let t = noEnd-false (ltb (largest (p .end)) (sizeHere c)) (ltb (largest (p .end)) (p .start)) q in
-    let f = nearest-fits p (sizeHere c) (ltb-true (largest (p .end)) (sizeHere c) (t .0)) (ltb-false (largest (p .end)) (p .start) (t .1)) in
+    let t = takesFF (ltb (withFF (p .end)) (sizeHere c)) (ltb (withFF (p .end)) (p .start)) q in
+    let f = end-fits p (sizeHere c) (ltb-true (withFF (p .end)) (sizeHere c) (t .0)) (ltb-false (withFF (p .end)) (p .start) (t .1)) in
     rw q
-    (ends-step c m (tailNumber p) _ (nearest p) _
-    (step-11 c m (nearest p) e (rw (le-ltb (withLow (p .end) (nearest p)) (p .start) (f .0), lt-ltb (withLow (p .end) (nearest p)) (sizeHere c) (f .1))))
-    refl
+    (ends-step c m (tailNumber p) _ (endLow p) _
+    (step-11 c m (endLow p) e (rw (le-ltb (withLow (p .end) (endLow p)) (p .start) (f .0), lt-ltb (withLow (p .end) (endLow p)) (sizeHere c) (f .1))))
+    refl refl
     (ends-12 _ m s refl (f .0) (omega arith))))

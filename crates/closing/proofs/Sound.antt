@@ -1,7 +1,7 @@
 -- What is known of a state whose run is open: the rows of 'Well formed' that closing leans on, and that its device lies in memory. Assumes nothing.
 use Prim.Native.Nat.{ℕ, zero, suc, _+_, _<_, _≤_}
 use mathlib.Core.Bool.{Bool, true, false, not, _&&_, _||_, true≢false}
-use mathlib.Core.Path.{_≡_, refl, ap, sym, _∙_}
+use mathlib.Core.Path.{_≡_, refl, sym}
 use mathlib.Core.List.{List, [], _∷_}
 use native.Mathlib.Nat.{not-suc-le-zero, le-of-suc-le-suc}
 use native.Mathlib.Omega.{arith}
@@ -163,6 +163,7 @@ module _ (c : Chain) (m : List ℕ) (h : openNumber c (length m) ≡ done) where
       register-clear true true h = absurd (true≢false (sym h))
       register-clear true false h = refl
       register-clear false b h = refl
+
       window : (leb (c .place .start) (c .place .next) && leb (c .place .next) (c .place .end) && ltb (c .place .end) (deviceSize c)) ≡ true
           → (c .place .next ≤ c .place .end) × (c .place .end < deviceSize c)
       window h =

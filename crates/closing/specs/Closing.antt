@@ -19,32 +19,42 @@ abbrev pub rowOf : ℕ → List Row → List ℕ
 rowOf a [] = []
 rowOf a ((n ⇒ bytes) ∷ rows) = pick (eqb a n) bytes (rowOf a rows)
 
--- size is that of the current device
+-- the size of the current device, and its stored register
 abbrev pub deviceSize : Chain → ℕ
 deviceSize c = sizeOf (getD (c .kinds) (c .place .device) 0)
 
 abbrev pub storedRegister : Chain → ℕ
 storedRegister c = getD (c .registers) (c .place .device) 0
 
--- the largest cell with the high byte of x: 256h + 255
-abbrev pub largest : ℕ → ℕ
-largest x = x / 256 * 256 + 255
+-- 256h + 255, with h the high byte of x
+abbrev pub withFF : ℕ → ℕ
+withFF x = x / 256 * 256 + 255
 
--- the present cells of the current device, from one to another inclusive
-abbrev pub present : Chain → List ℕ → ℕ → ℕ → List ℕ
-present c m first last = take (last - first + 1) (drop (baseOf (c .kinds) (c .place .device) + first) m)
-
--- windows remain after this one: `left` counts the current one too
+-- 00 FF FF if windows remain after this one, which is counted too, else 4D
 abbrev pub tail : Place → List ℕ
 tail p = pick (ltb 1 (p .left)) (0x00 ∷ 0xff ∷ 0xff ∷ []) (postamble ∷ [])
 
--- at 11, FF is no end of this window
-abbrev pub noEnd : Chain → Bool
-noEnd c = not (ltb (largest (c .place .end)) (deviceSize c)) || ltb (largest (c .place .end)) (c .place .start)
+-- the present values of the device's cells from first to last, then the tail
+abbrev pub window : Chain → List ℕ → ℕ → ℕ → List ℕ
+window c m first last = take (last - first + 1) (drop (baseOf (c .kinds) (c .place .device) + first) m) ++ tail (c .place)
 
--- at 11, the low byte of the nearest end: the start's if h is the start's high byte
-abbrev pub nearest : Place → ℕ
-nearest p = pick (eqb (p .end / 256) (p .start / 256)) (p .start % 256) 0x00
+-- at 9: FF, then FF FF if that start is below size
+abbrev pub afterStart : Chain → List ℕ
+afterStart c = 0xff ∷ pick (ltb (withFF (c .place .start)) (deviceSize c)) (0xff ∷ 0xff ∷ []) []
+
+-- at 11: 256h + 255 is not below size or is below start
+abbrev pub refusesFF : Chain → Bool
+refusesFF c = not (ltb (withFF (c .place .end)) (deviceSize c)) || ltb (withFF (c .place .end)) (c .place .start)
+
+-- at 11: the start's low byte if h is the start's high byte, else 00
+abbrev pub endLow : Place → ℕ
+endLow p = pick (eqb (p .end / 256) (p .start / 256)) (p .start % 256) 0x00
+
+-- at 11: FF, or a low byte and the window up to the end that it makes
+abbrev pub afterEnd : Chain → List ℕ → List ℕ
+afterEnd c m =
+    let p = c .place in
+    pick (refusesFF c) (0xff ∷ []) (endLow p ∷ window c m (p .start) (p .end / 256 * 256 + endLow p))
 
 unfoldable pub closingBytes : Chain → List ℕ → List ℕ
 closingBytes c m =
@@ -60,8 +70,8 @@ closingBytes c m =
     ∷ (at·check ⇒ postamble ∷ [])
     ∷ (at·null ⇒ 0x00 ∷ 0xff ∷ 0xff ∷ [])
     ∷ (at·start ⇒ 0xff ∷ 0xff ∷ [])
-    ∷ (at·start-low ⇒ 0xff ∷ pick (ltb (largest (p .start)) (deviceSize c)) (0xff ∷ 0xff ∷ []) [])
+    ∷ (at·start-low ⇒ afterStart c)
     ∷ (at·end ⇒ 0xff ∷ 0xff ∷ [])
-    ∷ (at·end-low ⇒ pick (noEnd c) (0xff ∷ []) (nearest p ∷ present c m (p .start) (p .end / 256 * 256 + nearest p) ++ tail p))
-    ∷ (at·data ⇒ present c m (p .next) (p .end) ++ tail p)
+    ∷ (at·end-low ⇒ afterEnd c m)
+    ∷ (at·data ⇒ window c m (p .next) (p .end))
     ∷ [])

@@ -1,5 +1,5 @@
-// The closing bytes of a stopped run: what ends it and changes no cell and no register. They are written, not fed: the
-// length is known first, then they go straight from the lent memory to the output.
+// The closing bytes of a stopped run: they end it and change no cell and no register. They are written, not fed: once their
+// length is known they go straight from the lent memory to the output.
 mod output;
 
 use crate::output::part;
@@ -18,15 +18,24 @@ ghost use Prim.Native.Nat.{_+_, _-_, _/_, _%_, _≤_, _<_};
 ghost use lib.Dec.{eqb};
 ghost use Rattle.chain.specs.Rules.{pick};
 ghost use lib.ListN.{length};
-ghost use Rattle.chain.specs.Paper.{at·start-low, at·end-low};
-ghost use Rattle.closing.specs.Closing.{present, tail, closingBytes};
+ghost use Rattle.closing.specs.Closing.{window, afterStart, afterEnd, closingBytes};
 ghost use Rattle.closing.specs.Calls.{Closing};
 ghost use Rattle.closing.specs.Put.{Put};
 
-// A window: the lead, its present cells from one to another, its tail.
+// How many cells a window from first to last has.
+fn width(first: u16, last: u16) -> usize
+    ensures { λ r. ⌜ (r ≡ last - first + 1) × (r ≤ 65536) ⌝ }
+{
+    if last < first {
+        return 1;
+    }
+    (last - first) as usize + 1
+}
+
+// The lead, then the present cells from first to last, then the tail.
 fn put_window(c: Chain, mem: &[u8], lead: &[u8], first: u16, last: u16, out: &mut [u8]) -> Written
     requires { ⌜ length (now lead) ≤ 1 ⌝ }
-    ensures { λ r. ⌜ Put (now (lead .entry) ++ (present c (now (mem .entry)) first last ++ tail (c .place))) (now (out .entry)) r (now (out .exit)) ⌝ }
+    ensures { λ r. ⌜ Put (now (lead .entry) ++ window c (now (mem .entry)) first last) (now (out .entry)) r (now (out .exit)) ⌝ }
 {
     let ks = c.kinds;
     let at = base_of(ks, c.place.device) + first as usize;
@@ -37,18 +46,8 @@ fn put_window(c: Chain, mem: &[u8], lead: &[u8], first: u16, last: u16, out: &mu
     put_three(out, lead, cells, &[POSTAMBLE])
 }
 
-fn width(first: u16, last: u16) -> usize
-    ensures { λ r. ⌜ (r ≡ last - first + 1) × (r ≤ 65536) ⌝ }
-{
-    if last < first {
-        return 1;
-    }
-    (last - first) as usize + 1
-}
-
-fn close_start(c: Chain, mem: &[u8], out: &mut [u8]) -> Written
-    requires { ⌜ c .place .awaited ≡ at·start-low ⌝ }
-    ensures { λ r. ⌜ Put (closingBytes c (now (mem .entry))) (now (out .entry)) r (now (out .exit)) ⌝ }
+fn put_after_start(c: Chain, out: &mut [u8]) -> Written
+    ensures { λ r. ⌜ Put (afterStart c) (now (out .entry)) r (now (out .exit)) ⌝ }
 {
     let ks = c.kinds;
     let size = size_of(at8(ks, c.place.device));
@@ -58,16 +57,19 @@ fn close_start(c: Chain, mem: &[u8], out: &mut [u8]) -> Written
     put(out, &[0xff])
 }
 
-// The low byte of the nearest end: the start's where the two high bytes are one.
-fn nearest_low(start: u16, end: u16) -> u16
+// The start's low byte where both have one high byte, else 00.
+fn end_low(start: u16, end: u16) -> u16
     ensures { λ r. ⌜ (r ≡ pick (eqb (end / 256) (start / 256)) (start % 256) 0x00) × (r < 256) ⌝ }
 {
-    if end / 256 == start / 256 { start % 256 } else { 0x00 }
+    if end / 256 == start / 256 {
+        start % 256
+    } else {
+        0x00
+    }
 }
 
-fn close_end(c: Chain, mem: &[u8], out: &mut [u8]) -> Written
-    requires { ⌜ c .place .awaited ≡ at·end-low ⌝ }
-    ensures { λ r. ⌜ Put (closingBytes c (now (mem .entry))) (now (out .entry)) r (now (out .exit)) ⌝ }
+fn put_after_end(c: Chain, mem: &[u8], out: &mut [u8]) -> Written
+    ensures { λ r. ⌜ Put (afterEnd c (now (mem .entry))) (now (out .entry)) r (now (out .exit)) ⌝ }
 {
     let ks = c.kinds;
     let size = size_of(at8(ks, c.place.device));
@@ -76,12 +78,12 @@ fn close_end(c: Chain, mem: &[u8], out: &mut [u8]) -> Written
     if !(most < size) | (most < p.start) {
         return put(out, &[0xff]);
     }
-    let low = nearest_low(p.start, p.end);
+    let low = end_low(p.start, p.end);
     put_window(c, mem, &[low as u8], p.start, p.end / 256 * 256 + low, out)
 }
 
 // The row of the awaited byte.
-fn close(c: Chain, mem: &[u8], out: &mut [u8]) -> Written
+fn put_closing(c: Chain, mem: &[u8], out: &mut [u8]) -> Written
     ensures { λ r. ⌜ Put (closingBytes c (now (mem .entry))) (now (out .entry)) r (now (out .exit)) ⌝ }
 {
     let p = c.place;
@@ -90,7 +92,10 @@ fn close(c: Chain, mem: &[u8], out: &mut [u8]) -> Written
     match a {
         AT_PREAMBLE => put(out, &[0x00]),
         AT_SECOND => put(out, &[0x00]),
-        AT_CONTROL => put(out, &[at8(rs, p.device), 0x00, 0x00, 0x00, NO_WINDOWS, POSTAMBLE]),
+        AT_CONTROL => put(
+            out,
+            &[at8(rs, p.device), 0x00, 0x00, 0x00, NO_WINDOWS, POSTAMBLE],
+        ),
         AT_ADDRESS => put(out, &[0x00, 0x00, 0x00, NO_WINDOWS, POSTAMBLE]),
         AT_ADDRESS2 => put(out, &[0x00, 0x00, NO_WINDOWS, POSTAMBLE]),
         AT_ADDRESS3 => put(out, &[0x00, NO_WINDOWS, POSTAMBLE]),
@@ -98,9 +103,9 @@ fn close(c: Chain, mem: &[u8], out: &mut [u8]) -> Written
         AT_CHECK => put(out, &[POSTAMBLE]),
         AT_NULL => put(out, &[0x00, 0xff, 0xff]),
         AT_START => put(out, &[0xff, 0xff]),
-        AT_START_LOW => close_start(c, mem, out),
+        AT_START_LOW => put_after_start(c, out),
         AT_END => put(out, &[0xff, 0xff]),
-        AT_END_LOW => close_end(c, mem, out),
+        AT_END_LOW => put_after_end(c, mem, out),
         AT_DATA => put_window(c, mem, &mem[0..0], p.next, p.end, out),
         _ => Written {
             number: DONE,
@@ -109,13 +114,16 @@ fn close(c: Chain, mem: &[u8], out: &mut [u8]) -> Written
     }
 }
 
-// Writes the bytes that close the open run; the run stays open.
+// Writes the bytes that close the open run, which stays open: they are for the caller to send.
 pub fn closing(c: Chain, mem: &[u8], out: &mut [u8]) -> Written
     ensures { λ r. ⌜ Closing c (now (mem .entry)) (now (out .entry)) r (now (out .exit)) ⌝ }
 {
     let n = open_number(c, mem.len());
     if n != DONE {
-        return Written { number: n, length: 0 };
+        return Written {
+            number: n,
+            length: 0,
+        };
     }
-    close(c, mem, out)
+    put_closing(c, mem, out)
 }

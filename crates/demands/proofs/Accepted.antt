@@ -11,11 +11,11 @@ use borrow.Author.Tests.{eqb-true, eqb-false, eq-eqb, ne-eqb}
 use Rattle.chain.specs.declared.Chain.{Chain}
 use Rattle.chain.specs.Paper.{at·data, done, more}
 use Rattle.chain.specs.Rules.{pick}
-use Rattle.chain.proofs.Tests.{by-test}
+use Rattle.chain.proofs.ByCases.{by-test}
 use Rattle.machine.specs.Byte.{awaits, numberOf}
 use Rattle.machine.specs.Run.{writes, addressOf, memoryOf, Run, run, stepOf, onByte, runOf}
 use Rattle.machine.proofs.Feed.{run-over}
-use Rattle.machine.proofs.Kept.{step-number}
+use Rattle.machine.proofs.Runs.{step-number}
 use Rattle.machine.proofs.Blind.{Alike, blind}
 use Rattle.machine.proofs.Taken.{looked, first-on, first-off, looked-on, looked-off, run-taken}
 use Rattle.demands.specs.Grammar.{Sent, bytesOf}

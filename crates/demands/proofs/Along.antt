@@ -9,12 +9,13 @@ use borrow.Author.Tests.{eqb-true, eqb-false}
 use Rattle.chain.specs.declared.Chain.{Chain}
 use Rattle.chain.specs.Paper.{at·control, at·data, writing, checking, done, more}
 use Rattle.chain.specs.Rules.{pick}
-use Rattle.chain.proofs.Tests.{by-test}
+use Rattle.chain.proofs.ByCases.{by-test}
 use Rattle.machine.specs.Byte.{awaits, checks, numberOf}
 use Rattle.machine.specs.Run.{writes, addressOf, memoryOf, registersOf, Run, run, stepOf, onByte, runOf}
 use Rattle.machine.proofs.Block.{data-number}
 use Rattle.machine.proofs.Feed.{run-over}
-use Rattle.machine.proofs.Kept.{step-number, step-check}
+use Rattle.machine.proofs.Kept.{step-check}
+use Rattle.machine.proofs.Runs.{step-number}
 use Rattle.machine.proofs.Stores.{write-blind}
 use lib.Seq.{take-nil}
 use Rattle.demands.specs.Grammar.{Target, framing, register, cell, Sent, Store, memory, registers, Slot, nowhere, index, slot, bytesOf}

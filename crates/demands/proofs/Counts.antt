@@ -12,13 +12,14 @@ use Rattle.cells.specs.Differ.{oneUnless}
 use Rattle.chain.specs.declared.Chain.{Chain}
 use Rattle.chain.specs.Paper.{at·control, at·data, writing, checking, more}
 use Rattle.chain.specs.Rules.{pick}
-use Rattle.chain.proofs.Tests.{by-test}
+use Rattle.chain.proofs.ByCases.{by-test}
 use Rattle.machine.specs.Byte.{awaits, checks, numberOf}
 use Rattle.machine.specs.Run.{writes, addressOf, missedOf, counted, Run, run, stepOf, onByte, runOf}
 use Rattle.machine.proofs.Block.{data-number}
 use Rattle.machine.proofs.Feed.{run-over}
 use Rattle.machine.proofs.Frame.{advance-frame}
-use Rattle.machine.proofs.Kept.{step-number, step-check, unwritten}
+use Rattle.machine.proofs.Kept.{step-check, unwritten}
+use Rattle.machine.proofs.Runs.{step-number}
 use Rattle.machine.proofs.Taken.{looked, first-on, looked-on, looked-off, run-taken}
 use Rattle.machine.proofs.Blind.{still, Alike, blind}
 use Rattle.demands.specs.Grammar.{Target}

@@ -15,14 +15,14 @@ use Rattle.chain.specs.declared.Place.{Place}
 use Rattle.chain.specs.Paper.{preamble, postamble, no-windows, at·preamble, at·second, at·control, at·address, at·address2, at·address3, at·count, at·null, at·start, at·start-low, at·end, at·end-low, at·data, at·check, writing, checking, two-preambles, done, more, B2, B3}
 use Rattle.chain.specs.Rules.{pick}
 use Rattle.chain.specs.Set.{with·awaited, with·left, with·control, with·start, with·end, with·next, with·device, with·place}
-use Rattle.chain.proofs.Tests.{by-test}
+use Rattle.chain.proofs.ByCases.{by-test}
 use Rattle.machine.specs.Byte.{withLow, numberOf, noWindow, passedOf, advanceOf}
 use Rattle.machine.specs.Run.{addressOf, registersOf, missedOf, counted, Run, run, wentOn, stepOf, runOf}
 use Rattle.machine.specs.Calls.{openedPlace}
 use Rattle.machine.specs.Block.{missesOf, laidOf}
 use Rattle.machine.proofs.Block.{block}
 use Rattle.machine.proofs.Feed.{run-append, run-over}
-use Rattle.machine.proofs.Kept.{step-number}
+use Rattle.machine.proofs.Runs.{step-number}
 use Rattle.demands.specs.Grammar.{sizeAt, baseAt, Sent, frame, Window, Section, dataSent, windowSent, windowsSent, sectionSent, sectionsSent, leadSent, streamSent, bytesOf, Fits, AllFit, SectionFits, SectionsFit}
 use Rattle.demands.specs.Demand2.{Lets, AllLet, Fitting}
 use Rattle.demands.proofs.Plain.{bytes-append}

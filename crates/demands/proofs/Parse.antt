@@ -13,7 +13,7 @@ use Rattle.chain.specs.declared.Place.{Place}
 use Rattle.chain.specs.Paper.{preamble, postamble, no-windows, at·preamble, at·second, at·control, at·address, at·address2, at·address3, at·count, at·null, at·check, two-preambles, B2}
 use Rattle.chain.specs.Rules.{pick}
 use Rattle.chain.specs.Set.{with·place, with·registers, with·awaited, with·left, with·control, with·device}
-use Rattle.chain.proofs.Tests.{by-test}
+use Rattle.chain.proofs.ByCases.{by-test}
 use Rattle.machine.specs.Byte.{nextDevice, advanceOf}
 use Rattle.machine.specs.Run.{registersOf, missedOf, wentOn}
 use Rattle.machine.specs.Calls.{openedPlace}

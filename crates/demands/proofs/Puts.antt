@@ -7,7 +7,7 @@ use lib.Dec.{eqb}
 use lib.ListN.{length, getD, take, drop, length-set, take-append-drop}
 use lib.Seq.{getD-set-same, getD-set-other, ext-getD}
 use borrow.Author.Tests.{eqb-true, eqb-false}
-use Rattle.chain.proofs.Tests.{by-test}
+use Rattle.chain.proofs.ByCases.{by-test}
 use Rattle.demands.specs.Grammar.{Sent, Store, Slot, nowhere, index, slot, after, lastTo}
 use Rattle.demands.proofs.Along.{put, putAll}
 

@@ -3,6 +3,7 @@ pub mod Loader
 pub mod Demand2
 pub mod Demand3
 pub mod Files
+pub mod Second
 pub mod Ours
 pub mod Wrong
 pub mod Cases

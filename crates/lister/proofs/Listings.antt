@@ -1,19 +1,18 @@
 -- What number 0 of a stream and of a listing tells, and that the bytes taken fit in 32 bits. Assumes nothing.
-use Prim.Native.Nat.{ℕ, zero, suc, _+_, _-_, _*_, _^_, _≤_, _<_}
-use mathlib.Core.Bool.{Bool, true, false, not, _&&_, _||_}
-use mathlib.Core.Path.{_≡_, refl, sym, ap, _∙_}
-use mathlib.Core.List.{List, [], _∷_}
+use Prim.Native.Nat.{ℕ, _+_, _^_, _≤_, _<_}
+use mathlib.Core.Bool.{Bool, true, false, not, _&&_, _||_, and-false}
+use mathlib.Core.Path.{_≡_, sym, ap, _∙_}
+use mathlib.Core.List.{List}
 use native.Mathlib.Omega.{arith}
-use borrow.Author.Tests.{ltb-true, ltb-false, leb-true, eqb-true, eqb-false, eq-eqb, not-false}
+use borrow.Author.Tests.{lt-ltb, ltb-true, ltb-false, leb-true, eqb-true, eqb-false}
 use lib.Dec.{eqb, ltb, leb}
 use lib.ListN.{length, getD}
 use Rattle.chain.specs.Paper.{preamble, postamble, first-mode, two-preambles, done, bad-chain, bad-mode, no-preamble, bad-check-byte, ends-here, last-device, too-short, more, B2}
 use Rattle.chain.specs.Rules.{pick, from}
 use Rattle.lister.specs.declared.stream.Stop.{Stop}
-use Rattle.lister.specs.declared.Listed.{Listed}
-use Rattle.lister.specs.Stops.{stop, _then_, ifDone}
-use Rattle.lister.specs.Windows.{windowsStop, windowsOf}
-use Rattle.lister.specs.Listing.{preambleAt, controlAt, countAt, headStop, checkStop, streamStop, anyShorter, listStop, listedOf, listingOf}
+use Rattle.lister.specs.Stops.{stop, _then_}
+use Rattle.lister.specs.Windows.{windowsStop}
+use Rattle.lister.specs.Listing.{preambleAt, controlAt, countAt, headStop, checkStop, streamStop, anyShorter, listStop}
 use Rattle.lister.proofs.Windows.{by-test, or-no, windows-reach}
 
 -- ---- rows
@@ -38,11 +37,46 @@ module _ (e : Stop) (f : ℕ → Stop) where
 
 -- ---- the stream
 
+pub preamble-first : (mode : ℕ) → eqb mode two-preambles ≡ false → preambleAt mode ≡ 0
+unfolding preambleAt
+preamble-first mode e = rw e
+
+pub preamble-second : (mode : ℕ) → eqb mode two-preambles ≡ true → preambleAt mode ≡ 1
+unfolding preambleAt
+preamble-second mode e = rw e
+
 preamble-small : (mode : ℕ) → preambleAt mode ≤ 1
 unfolding preambleAt
 preamble-small mode = by-test (eqb mode two-preambles) (λ y. rw y (omega arith)) (λ y. rw y (omega arith))
 
 module _ (mode : ℕ) (s : List ℕ) where
+  -- the ways through the preambles: none, a bad one, one and the rest; in mode 6 no second, a bad second, two and the rest
+  pub head-none : length s ≡ 0 → headStop mode s ≡ stop more 0
+  unfolding headStop
+  head-none e = simp (e, and-false, lt-ltb 0 (preambleAt mode + 6) (omega arith))
+
+  pub head-bad : 0 < length s → eqb (getD s 0 0) preamble ≡ false → headStop mode s ≡ stop no-preamble 1
+  unfolding headStop
+  head-bad l e = simp (lt-ltb 0 (length s) l, e)
+
+  module _ (l : 0 < length s) (e : eqb (getD s 0 0) preamble ≡ true) where
+    pub head-one : eqb mode two-preambles ≡ false → headStop mode s ≡ pick (ltb (length s) 6) (stop more (length s)) (stop done 6)
+    unfolding headStop
+    head-one o = simp (lt-ltb 0 (length s) l, e, o, preamble-first mode o)
+
+    module _ (o : eqb mode two-preambles ≡ true) where
+      pub head-no-second : length s ≡ 1 → headStop mode s ≡ stop more 1
+      unfolding headStop
+      head-no-second z = simp (z, e, o, preamble-second mode o)
+
+      pub head-bad-second : 1 < length s → eqb (getD s 1 0) preamble ≡ false → headStop mode s ≡ stop no-preamble 2
+      unfolding headStop
+      head-bad-second k f = simp (lt-ltb 0 (length s) l, e, o, lt-ltb 1 (length s) k, f)
+
+      pub head-two : 1 < length s → eqb (getD s 1 0) preamble ≡ true → headStop mode s ≡ pick (ltb (length s) 7) (stop more (length s)) (stop done 7)
+      unfolding headStop
+      head-two k f = simp (lt-ltb 0 (length s) l, e, o, lt-ltb 1 (length s) k, f, preamble-second mode o)
+
   pub head-done : headStop mode s .number ≡ done → (headStop mode s ≡ stop done (preambleAt mode + 6)) × (preambleAt mode + 6 ≤ length s)
   unfolding headStop
   head-done h =

@@ -1,6 +1,6 @@
 -- Windows as the machine takes them, in a write of any chain: the run stops where the reading stops, or goes on after it. Assumes nothing.
 use Prim.Native.Nat.{ℕ, zero, suc, _+_, _-_, _*_, _/_, _%_, _^_, _≤_, _<_}
-use mathlib.Core.Bool.{Bool, true, false, and-false}
+use mathlib.Core.Bool.{false, and-false}
 use mathlib.Core.Path.{_≡_, refl, sym, ap, _∙_}
 use mathlib.Core.List.{List, [], _∷_}
 use native.Mathlib.Omega.{arith}
@@ -13,7 +13,7 @@ use Rattle.chain.specs.declared.Chain.{Chain}
 use Rattle.chain.specs.Paper.{at·null, at·start, at·start-low, at·end, at·end-low, at·data, at·check, opened, writing, done, bad-start, bad-end, more}
 use Rattle.chain.specs.Rules.{pick}
 use Rattle.chain.specs.Set.{with·place}
-use Rattle.chain.specs.Kinds.{sizeOf, baseOf}
+use Rattle.chain.specs.Kinds.{baseOf}
 use Rattle.machine.specs.Byte.{sizeHere, numberOf, advanceOf, passedOf}
 use Rattle.machine.specs.Run.{Run, run, addressOf, memoryOf, registersOf, missedOf, ended, stepOf, runOf}
 use Rattle.machine.specs.Block.{missesOf, laidOf}
@@ -21,9 +21,9 @@ use Rattle.machine.proofs.Feed.{run-at, run-end, run-over, run-part}
 use Rattle.machine.proofs.Block.{block, blockOf}
 use Rattle.lister.specs.declared.stream.Stop.{Stop}
 use Rattle.lister.specs.declared.window.ReadWindow.{ReadWindow}
-use Rattle.lister.specs.Stops.{stop}
+use Rattle.lister.specs.Stops.{stop, _then_}
 use Rattle.lister.specs.Windows.{startAt, endAt, nextAt, windowStop, readWindowOf, windowsStop, windowsOf}
-use Rattle.lister.proofs.Windows.{by-test, ways, Whole, is-whole}
+use Rattle.lister.proofs.Windows.{by-test, ways, number-is, next-is, is-whole, whole-next}
 
 -- ---- any run
 
@@ -41,12 +41,38 @@ endOf r = stop (r .number) (r .chain .place .taken)
 abbrev pub ticked : Stop → Stop
 ticked e = stop (e .number) (tick (e .taken))
 
+-- the run x, of a stream that is read up to e: it stops where the reading does, or, that being whole, it is the run y
+pub record Takes (x : Run) (e : Stop) (y : Run) : Type 0 where
+  pub goes-on : e .number ≡ done → x ≡ y
+  pub stops : (e .number ≡ done → ⊥) → endOf x ≡ ticked e
+
+pub takes-whole : {x y : Run} {t : ℕ} → x ≡ y → Takes x (stop done t) y
+takes-whole h = record { goes-on = λ z. h; stops = λ z. absurd (z refl) }
+
+pub takes-stop : {x y : Run} {n t : ℕ} → eqb n done ≡ false → endOf x ≡ stop n (tick t) → Takes x (stop n t) y
+takes-stop {n = n} q h = record { goes-on = λ z. absurd (eqb-false n done q z); stops = λ z. h }
+
+-- and what is read after it
+pub takes-ends : (x y : Run) (e : Stop) (f : ℕ → Stop) → Takes x e y → (e .number ≡ done → endOf y ≡ ticked (f (e .taken))) → endOf x ≡ ticked (e then f)
+takes-ends x y e f t k =
+    by-test (eqb (e .number) done)
+    (λ q. let z : e .number ≡ done = eqb-true (e .number) done q in
+    rw q (ap endOf (t .goes-on z) ∙ k z))
+    (λ q. rw q (t .stops (eqb-false (e .number) done q)))
+
+pub takes-then : (x y z : Run) (e : Stop) (f : ℕ → Stop) → Takes x e y → (e .number ≡ done → Takes y (f (e .taken)) z) → Takes x (e then f) z
+takes-then x y z e f t k =
+    by-test (eqb (e .number) done)
+    (λ q. let a : e .number ≡ done = eqb-true (e .number) done q in
+    rw q (record { goes-on = λ b. t .goes-on a ∙ k a .goes-on b; stops = λ b. ap endOf (t .goes-on a) ∙ k a .stops b }))
+    (λ q. rw q (record { goes-on = λ b. absurd (eqb-false (e .number) done q b); stops = t .stops }))
+
 -- the byte at `at` ends the run
 pub run-ends : (c : Chain) (m s : List ℕ) (at n : ℕ) → at < length s → numberOf c (getD s at 0) ≡ n → eqb n more ≡ false
-    → endOf (runOf (run c m more) (drop at s)) ≡ stop n ((c .place .taken + 1) % 2 ^ 32)
+    → runOf (run c m more) (drop at s) ≡ run (ended c) m n
 unfolding stepOf
 run-ends c m s at n h e z =
-    rw (run-at c m s at h, e, z, run-over (drop (at + 1) s) (run (ended c) m n) (eqb-false n more z))
+    run-at c m s at h ∙ rw (e, z) (run-over (drop (at + 1) s) (run (ended c) m n) (eqb-false n more z))
 
 -- bytes that leave memory as it is, from `at` on: cs i is the chain after i of them
 module _ (m s : List ℕ) (cs : ℕ → Chain) (at : ℕ) where
@@ -175,10 +201,13 @@ module _ (c : Chain) (size : ℕ) (sz : sizeHere c ≡ size) (m s : List ℕ) (n
           let o : suc (suc n) - 1 ≡ suc n = omega arith in
           rw (lt-ltb 1 (suc (suc n)) (omega arith), o)
 
-  data-on : startAt s at ≤ endAt s at → nextAt s at ≤ length s
-      → runOf (run (w 5) m more) (drop (at + 5) s)
-      ≡ runOf (run (waits c n (nextAt s at)) (sets m (baseOf (c .kinds) (c .place .device) + startAt s at) (take (endAt s at - startAt s at + 1) (drop (at + 5) s))) more)
-        (drop (nextAt s at) s)
+  -- the run after the window, its data stored
+  abbrev after : Run
+  after =
+      runOf (run (waits c n (nextAt s at)) (sets m (baseOf (c .kinds) (c .place .device) + startAt s at) (take (endAt s at - startAt s at + 1) (drop (at + 5) s))) more)
+      (drop (nextAt s at) s)
+
+  data-on : startAt s at ≤ endAt s at → nextAt s at ≤ length s → runOf (run (w 5) m more) (drop (at + 5) s) ≡ after
   unfolding w shape laidOf addressOf
   data-on o l =
       let k : ℕ = endAt s at - startAt s at + 1 in
@@ -186,7 +215,7 @@ module _ (c : Chain) (size : ℕ) (sz : sizeHere c ≡ size) (m s : List ℕ) (n
       let e : length (take k (drop (at + 5) s)) ≡ k = length-take-le k (drop (at + 5) s) (omega (arith, length-drop (at + 5) s)) in
       run-part (w 5) m s (at + 5) k _ (rw z (block (take k (drop (at + 5) s)) (w 5) m refl (omega arith) (omega arith)))
       ∙ ap (λ (d : Chain). runOf (run d (sets m (baseOf (c .kinds) (c .place .device) + startAt s at) (take k (drop (at + 5) s))) more) (drop (nextAt s at) s))
-        (block-after (take k (drop (at + 5) s)) e o (addressOf (w 5)))
+      (block-after (take k (drop (at + 5) s)) e o (addressOf (w 5)))
 
   data-dry : startAt s at ≤ endAt s at → at + 5 ≤ length s → length s < nextAt s at
       → endOf (runOf (run (w 5) m more) (drop (at + 5) s)) ≡ stop more (tick (length s))
@@ -204,35 +233,72 @@ module _ (c : Chain) (size : ℕ) (sz : sizeHere c ≡ size) (m s : List ℕ) (n
   from-first : (x : Stop) → endOf (runOf (run (w 0) m more) (drop at s)) ≡ x → endOf (runOf (run (waits c (suc n) at) m more) (drop at s)) ≡ x
   from-first x e = ap (λ (d : Chain). endOf (runOf (run d m more) (drop at s))) w-first ∙ e
 
-  -- the run stops where the reading of the window does
-  window-off : at ≤ length s → (windowStop size s at .number ≡ done → ⊥)
-      → endOf (runOf (run (waits c (suc n) at) m more) (drop at s)) ≡ ticked (windowStop size s at)
-  window-off g =
-      ways size s at (λ e. (e .number ≡ done → ⊥) → endOf (runOf (run (waits c (suc n) at) m more) (drop at s)) ≡ ticked e)
-      (λ l b z. let x : at + 2 + 1 ≡ at + 3 = omega arith in
-      from-first (stop bad-start (tick (at + 3)))
+  -- one window: the run stops where its reading does, or goes on after it, its data stored
+  window-takes : at ≤ length s → Takes (runOf (run (waits c (suc n) at) m more) (drop at s)) (windowStop size s at) after
+  window-takes g =
+      ways size s at (λ e. Takes (runOf (run (waits c (suc n) at) m more) (drop at s)) e after)
+      (λ l b. let x : at + 2 + 1 ≡ at + 3 = omega arith in
+      takes-stop refl
+      (from-first (stop bad-start (tick (at + 3)))
       (rw (run-on m s w at 2 (λ i j. w-step i (omega arith) (λ q. absurd (omega (arith, q, j))) (λ q. absurd (omega (arith, q, j)))) (omega arith))
-      (run-ends (w 2) m s (at + 2) bad-start (omega arith) (number-11 b) refl ∙ rw (w-taken 2, inc (at + 2), x))))
-      (λ l a b z. let x : at + 4 + 1 ≡ at + 5 = omega arith in
-      from-first (stop bad-end (tick (at + 5)))
+      (ap endOf (run-ends (w 2) m s (at + 2) bad-start (omega arith) (number-11 b) refl) ∙ rw (w-taken 2, inc (at + 2), x)))))
+      (λ l a b. let x : at + 4 + 1 ≡ at + 5 = omega arith in
+      takes-stop refl
+      (from-first (stop bad-end (tick (at + 5)))
       (rw (run-on m s w at 4 (λ i j. w-step i (omega arith) (λ q. a) (λ q. absurd (omega (arith, q, j)))) (omega arith))
-      (run-ends (w 4) m s (at + 4) bad-end (omega arith) (number-12 b) refl ∙ rw (w-taken 4, inc (at + 4), x))))
-      (λ f o h z. from-first (stop more (tick (length s)))
+      (ap endOf (run-ends (w 4) m s (at + 4) bad-end (omega arith) (number-12 b) refl) ∙ rw (w-taken 4, inc (at + 4), x)))))
+      (λ f o h. takes-stop refl
+      (from-first (stop more (tick (length s)))
       (by-test (leb (at + 5) (length s))
       (λ y. let l : at + 5 ≤ length s = leb-true (at + 5) (length s) y in
       rw (run-on m s w at 5 (λ i j. w-step i j (λ q. f (omega arith)) (λ q. o l)) l) (data-dry (o l .0) l h))
       (λ y. let l : length s < at + 5 = leb-false (at + 5) (length s) y in
       let x : at + (length s - at) ≡ length s = omega arith in
       rw (run-dry m s w at (λ i j. w-step i (omega arith) (λ q. f (omega arith)) (λ q. o (omega arith))) g)
-      (ap (λ (t : ℕ). stop more t) (w-taken (length s - at) ∙ ap tick x)))))
-      (λ a b d l z. absurd (z refl))
+      (ap (λ (t : ℕ). stop more t) (w-taken (length s - at) ∙ ap tick x))))))
+      (λ a b d l. takes-whole
+      (ap (λ (d : Chain). runOf (run d m more) (drop at s)) w-first
+      ∙ run-on m s w at 5 (λ i j. w-step i j (λ q. a) (λ q. (b, d))) (omega arith)
+      ∙ data-on b l))
 
-  window-on : Whole size s at
-      → runOf (run (waits c (suc n) at) m more) (drop at s)
-      ≡ runOf (run (waits c n (nextAt s at)) (sets m (baseOf (c .kinds) (c .place .device) + startAt s at) (take (endAt s at - startAt s at + 1) (drop (at + 5) s))) more)
-        (drop (nextAt s at) s)
-  window-on h =
-      let l = h .all-there in
-      ap (λ (d : Chain). runOf (run d m more) (drop at s)) w-first
-      ∙ run-on m s w at 5 (λ i j. w-step i j (λ q. h .start-inside) (λ q. (h .in-order, h .end-inside))) (omega arith)
-      ∙ data-on (h .in-order) l
+-- ---- the same, as it is read
+
+-- memory with the data bytes of a window stored, and of several, in order; base is where the device's memory begins
+abbrev pub storedOf : List ℕ → ℕ → List ℕ → ReadWindow → List ℕ
+storedOf s base m r = sets m (base + r .start) (take (r .end - r .start + 1) (drop (r .first) s))
+
+abbrev pub storedAll : List ℕ → ℕ → List ℕ → List ReadWindow → List ℕ
+storedAll s base m [] = m
+storedAll s base m (r ∷ rs) = storedAll s base (storedOf s base m r) rs
+
+module _ (c : Chain) (size : ℕ) (sz : sizeHere c ≡ size) (s : List ℕ) where
+  abbrev pub runFrom : List ℕ → ℕ → ℕ → Run
+  runFrom m n at = runOf (run (waits c n at) m more) (drop at s)
+
+  -- one window as the leaf reads it
+  pub window-as-machine : (m : List ℕ) (n at : ℕ) → at ≤ length s
+      → Takes (runFrom m (suc n) at) (stop (readWindowOf size s at .number) (readWindowOf size s at .next))
+      (runFrom (storedOf s (baseOf (c .kinds) (c .place .device)) m (readWindowOf size s at)) n (readWindowOf size s at .next))
+  window-as-machine m n at g =
+      let t = window-takes c size sz m s n at g in
+      record {
+        goes-on = λ z. let q = is-whole size s at (number-is size s at ∙ z) in t .goes-on (number-is size s at ∙ z) ∙ rw (q .reads);
+        stops = λ z. t .stops (λ y. z (sym (number-is size s at) ∙ y)) ∙ rw (number-is size s at, next-is size s at);
+      }
+
+  pub windows-as-machine : (n : ℕ) (m : List ℕ) (at : ℕ) → at ≤ length s
+      → Takes (runFrom m n at) (windowsStop size s n at)
+      (runFrom (storedAll s (baseOf (c .kinds) (c .place .device)) m (windowsOf size s n at)) 0 (windowsStop size s n at .taken))
+  unfolding windowsStop windowsOf
+  windows-as-machine zero m at g = takes-whole refl
+  windows-as-machine (suc n) m at g =
+      let t = window-takes c size sz m s n at g in
+      by-test (eqb (windowStop size s at .number) done)
+      (λ e. let z = eqb-true (windowStop size s at .number) done e in
+      let q = is-whole size s at z in
+      let x : windowStop size s at .taken ≡ nextAt s at = whole-next size s at q in
+      let u = windows-as-machine n (storedOf s (baseOf (c .kinds) (c .place .device)) m (readWindowOf size s at)) (nextAt s at) (q .all-there) in
+      let v = t .goes-on z ∙ rw (q .reads) in
+      record { goes-on = λ y. v ∙ u .goes-on (rw (e, x) at y) ∙ rw (e, x); stops = λ y. ap endOf v ∙ u .stops (λ a. y (rw (e, x) a)) ∙ rw (e, x) })
+      (λ e. let f = eqb-false (windowStop size s at .number) done e in
+      record { goes-on = λ y. absurd (f (rw e at y)); stops = λ y. t .stops f ∙ rw e })

@@ -1,20 +1,22 @@
 -- The three tables, one window more filled in. Assumes nothing.
-use Prim.Native.Nat.{ℕ, zero, suc, _+_, _-_, _*_, _≤_, _<_}
+use Prim.Native.Nat.{ℕ, _+_, _-_, _*_, _≤_, _<_}
 use mathlib.Core.Path.{_≡_, refl, sym, ap, _∙_}
-use mathlib.Core.List.{List, [], _∷_, map}
+use mathlib.Core.List.{List, [], _∷_, _++_, map}
 use native.Mathlib.Omega.{arith}
 use native.Mathlib.Numerals.{add-one}
-use lib.ListN.{length, set, length-set}
-use lib.Seq.{sets}
-use borrow.Author.Tests.{eq-eqb, ne-eqb}
+use lib.ListN.{length, set, drop, length-set, length-map}
+use lib.Seq.{sets, sets-eq}
+use borrow.Author.Tests.{eq-eqb, ne-eqb, eqb-true, eqb-false}
+use lib.Dec.{eqb}
 use Rattle.chain.specs.Paper.{done}
 use Rattle.chain.specs.Kinds.{sizeOf}
 use Rattle.lister.specs.declared.stream.Stop.{Stop}
 use Rattle.lister.specs.declared.window.ReadWindow.{ReadWindow}
 use Rattle.lister.specs.declared.Listed.{Listed}
-use Rattle.lister.specs.Windows.{windowStop, readWindowOf, windowsStop, windowsOf}
+use Rattle.lister.specs.Stops.{ifDone}
+use Rattle.lister.specs.Windows.{readWindowOf, windowsStop, windowsOf}
 use Rattle.lister.specs.Listing.{preambleAt, countAt, listStop, listedOf, listingOf, startsOf, endsOf, offsetsOf, listed, listing, Lists}
-use Rattle.lister.proofs.Windows.{Whole, windows-first, windows-list-none, next-is, reach}
+use Rattle.lister.proofs.Windows.{by-test, windows-first, windows-list-none, windows-length, next-is, reach}
 use Rattle.lister.proofs.Listings.{list-done}
 
 -- what is left to write from i on gives the whole table
@@ -90,7 +92,7 @@ module _ (size : ℕ) (s : List ℕ) (p : ℕ) (e : Stop) where
   unfolding listingOf
   listing-none h = rw (ne-eqb (e .number) done h)
 
-  listing-all : e .number ≡ done → listingOf size s p e ≡ windowsOf size s (countAt s p) (p + 6)
+  pub listing-all : e .number ≡ done → listingOf size s p e ≡ windowsOf size s (countAt s p) (p + 6)
   unfolding listingOf
   listing-all h = rw (eq-eqb (e .number) done h)
 
@@ -135,10 +137,58 @@ module _ (kind mode : ℕ) (s starts ends offsets : List ℕ) (size p : ℕ) (e 
       → Lists kind mode s starts ends offsets r starts′ ends′ offsets′
   lists-all starts′ ends′ offsets′ h f =
       let g : windowsOf size s (r .windows) (p + 6) ≡ listing kind mode s starts ends offsets =
-          ap (λ (n : ℕ). windowsOf size s n (p + 6)) (windows-are h) ∙ sym (is-listing ∙ listing-all size s p e (sym number-is ∙ h)) in
+      ap (λ (n : ℕ). windowsOf size s n (p + 6)) (windows-are h) ∙ sym (is-listing ∙ listing-all size s p e (sym number-is ∙ h)) in
       record {
         answer = is-answer;
         starts-left = f .0 ∙ rw g;
         ends-left = f .1 .0 ∙ rw g;
         offsets-left = f .1 .1 ∙ rw (g, pa);
       }
+
+-- ---- what the promise says of the tables: the windows listed, as many as are answered, and the rest as lent
+
+table-front : (vs l : List ℕ) → length vs ≤ length l → sets l 0 vs ≡ vs ++ drop (length vs) l
+table-front vs l h =
+    let e : 0 + length vs ≡ length vs = omega arith in
+    sets-eq vs l 0 (omega arith) ∙ rw e
+
+pub record Left (listing : List ReadWindow) (n p : ℕ) (starts ends offsets starts′ ends′ offsets′ : List ℕ) : Type 0 where
+  pub count : length listing ≡ n
+  pub starts-are : starts′ ≡ startsOf listing ++ drop n starts
+  pub ends-are : ends′ ≡ endsOf listing ++ drop n ends
+  pub offsets-are : offsets′ ≡ offsetsOf p listing ++ drop n offsets
+
+module _ (kind mode : ℕ) (s starts ends offsets : List ℕ) where
+  listing-fits : (length (listing kind mode s starts ends offsets) ≡ ifDone (listed kind mode s starts ends offsets) (countAt s (preambleAt mode)))
+      × (length (listing kind mode s starts ends offsets) ≤ length starts) × (length (listing kind mode s starts ends offsets) ≤ length ends)
+      × (length (listing kind mode s starts ends offsets) ≤ length offsets)
+  listing-fits =
+      let e : Stop = listed kind mode s starts ends offsets in
+      by-test (eqb (e .number) done)
+      (λ y. let z : e .number ≡ done = eqb-true (e .number) done y in
+      let d = list-done (sizeOf kind) mode s (length starts) (length ends) (length offsets) z in
+      let f : length (listing kind mode s starts ends offsets) ≡ countAt s (preambleAt mode) =
+      ap length (listing-all (sizeOf kind) s (preambleAt mode) e z) ∙ windows-length (sizeOf kind) s (countAt s (preambleAt mode)) (preambleAt mode + 6) (d .read .windows) in
+      rw (y, f) (refl, d .starts-fit, d .ends-fit, d .offsets-fit))
+      (λ y. let f = listing-none (sizeOf kind) s (preambleAt mode) e (eqb-false (e .number) done y) in
+      rw (y, f) (refl, omega arith, omega arith, omega arith))
+
+  pub lists-leave : (r : Listed) (starts′ ends′ offsets′ : List ℕ) → Lists kind mode s starts ends offsets r starts′ ends′ offsets′
+      → Left (listing kind mode s starts ends offsets) (r .windows) (preambleAt mode) starts ends offsets starts′ ends′ offsets′
+  unfolding listedOf
+  lists-leave r starts′ ends′ offsets′ l =
+      let f = listing-fits in
+      let n : length (listing kind mode s starts ends offsets) ≡ r .windows = f .0 ∙ sym (ap (λ (x : Listed). x .windows) (l .answer)) in
+      record {
+        count = n;
+        starts-are = l .starts-left ∙ front (λ (w : ReadWindow). w .start) starts (f .1) ∙ rw n;
+        ends-are = l .ends-left ∙ front (λ (w : ReadWindow). w .end) ends (f .2) ∙ rw n;
+        offsets-are = l .offsets-left ∙ front (λ (w : ReadWindow). w .first - preambleAt mode) offsets (f .3) ∙ rw n;
+      }
+    where
+      front : (g : ReadWindow → ℕ) (old : List ℕ) → length (listing kind mode s starts ends offsets) ≤ length old
+          → sets old 0 (map g (listing kind mode s starts ends offsets))
+          ≡ map g (listing kind mode s starts ends offsets) ++ drop (length (listing kind mode s starts ends offsets)) old
+      front g old h =
+          let e : length (map g (listing kind mode s starts ends offsets)) ≡ length (listing kind mode s starts ends offsets) = length-map (listing kind mode s starts ends offsets) g in
+          table-front (map g (listing kind mode s starts ends offsets)) old (omega arith) ∙ rw e

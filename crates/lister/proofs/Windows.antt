@@ -2,17 +2,16 @@
 use Prim.Native.Nat.{ℕ, zero, suc, _+_, _-_, _*_, _≤_, _<_}
 use mathlib.Core.Bool.{Bool, true, false, not, _&&_, _||_, and-false, true≢false}
 use mathlib.Core.Path.{_≡_, refl, sym, ap, _∙_}
-use mathlib.Core.Logic.{⊎-elim, _⊎_, inl, inr}
 use mathlib.Core.List.{List, [], _∷_}
 use native.Mathlib.Omega.{arith}
-use borrow.Author.Tests.{lt-ltb, le-ltb, le-leb, lt-leb, ltb-true, ltb-false, leb-true, leb-false, eqb-true, eqb-false, eq-eqb, ne-eqb, not-true, not-false}
+use borrow.Author.Tests.{lt-ltb, le-ltb, le-leb, lt-leb, ltb-true, ltb-false, leb-true, leb-false, eqb-true, eqb-false, not-true, not-false}
 use lib.Dec.{eqb, ltb, leb}
-use lib.ListN.{length, getD}
+use lib.ListN.{length}
 use Rattle.chain.specs.Paper.{done, bad-start, bad-end, more}
 use Rattle.chain.specs.Rules.{pick}
 use Rattle.lister.specs.declared.stream.Stop.{Stop}
 use Rattle.lister.specs.declared.window.ReadWindow.{ReadWindow}
-use Rattle.lister.specs.Stops.{stop, _then_, ifDone}
+use Rattle.lister.specs.Stops.{stop}
 use Rattle.lister.specs.Windows.{startAt, endAt, nextAt, windowStop, readWindowOf, windowsStop, windowsOf}
 
 -- ---- the six ways in which one window is read
@@ -101,7 +100,7 @@ module _ (size : ℕ) (s : List ℕ) (at : ℕ) where
       → (at + 3 ≤ length s → size ≤ startAt s at → P (stop bad-start (at + 3)))
       → (at + 5 ≤ length s → startAt s at < size → (startAt s at ≤ endAt s at → size ≤ endAt s at) → P (stop bad-end (at + 5)))
       → ((at + 3 ≤ length s → startAt s at < size) → (at + 5 ≤ length s → (startAt s at ≤ endAt s at) × (endAt s at < size)) → length s < nextAt s at
-        → P (stop more (length s)))
+      → P (stop more (length s)))
       → (startAt s at < size → startAt s at ≤ endAt s at → endAt s at < size → nextAt s at ≤ length s → P (stop done (nextAt s at)))
       → P (windowStop size s at)
   unfolding windowStop
@@ -110,15 +109,15 @@ module _ (size : ℕ) (s : List ℕ) (at : ℕ) where
       (λ a. let x = and-yes (leb (at + 3) (length s)) (not (ltb (startAt s at) size)) a in
       rw a (p (leb-true (at + 3) (length s) (x .0)) (ltb-false (startAt s at) size (not-true (ltb (startAt s at) size) (x .1)))))
       (λ a. let f : at + 3 ≤ length s → startAt s at < size =
-          λ h. ltb-true (startAt s at) size (not-false (ltb (startAt s at) size) (and-no (leb (at + 3) (length s)) (not (ltb (startAt s at) size)) a (le-leb (at + 3) (length s) h))) in
+      λ h. ltb-true (startAt s at) size (not-false (ltb (startAt s at) size) (and-no (leb (at + 3) (length s)) (not (ltb (startAt s at) size)) a (le-leb (at + 3) (length s) h))) in
       by-test (leb (at + 5) (length s) && (ltb (endAt s at) (startAt s at) || not (ltb (endAt s at) size)))
       (λ b. let x = and-yes (leb (at + 5) (length s)) (ltb (endAt s at) (startAt s at) || not (ltb (endAt s at) size)) b in
       let l : at + 5 ≤ length s = leb-true (at + 5) (length s) (x .0) in
       rw (a, b) (q l (f (omega arith))
       (λ h. ltb-false (endAt s at) size (not-true (ltb (endAt s at) size) (or-yes (ltb (endAt s at) (startAt s at)) (not (ltb (endAt s at) size)) (x .1) (le-ltb (endAt s at) (startAt s at) h))))))
       (λ b. let g : at + 5 ≤ length s → (startAt s at ≤ endAt s at) × (endAt s at < size) =
-          λ h. let y = or-no (ltb (endAt s at) (startAt s at)) (not (ltb (endAt s at) size)) (and-no (leb (at + 5) (length s)) (ltb (endAt s at) (startAt s at) || not (ltb (endAt s at) size)) b (le-leb (at + 5) (length s) h)) in
-          (ltb-false (endAt s at) (startAt s at) (y .0), ltb-true (endAt s at) size (not-false (ltb (endAt s at) size) (y .1))) in
+      λ h. let y = or-no (ltb (endAt s at) (startAt s at)) (not (ltb (endAt s at) size)) (and-no (leb (at + 5) (length s)) (ltb (endAt s at) (startAt s at) || not (ltb (endAt s at) size)) b (le-leb (at + 5) (length s) h)) in
+      (ltb-false (endAt s at) (startAt s at) (y .0), ltb-true (endAt s at) size (not-false (ltb (endAt s at) size) (y .1))) in
       by-test (ltb (length s) (nextAt s at))
       (λ d. rw (a, b, d) (r f g (ltb-true (length s) (nextAt s at) d)))
       (λ d. let n : nextAt s at ≤ length s = ltb-false (length s) (nextAt s at) d in
@@ -127,6 +126,10 @@ module _ (size : ℕ) (s : List ℕ) (at : ℕ) where
   pub next-is : readWindowOf size s at .next ≡ windowStop size s at .taken
   unfolding readWindowOf
   next-is = refl
+
+  pub number-is : windowStop size s at .number ≡ readWindowOf size s at .number
+  unfolding readWindowOf
+  number-is = refl
 
   -- no further than its five bytes and the device's size
   pub reach : windowStop size s at .taken ≤ at + 5 + size
@@ -153,6 +156,9 @@ module _ (size : ℕ) (s : List ℕ) (at : ℕ) where
       (λ f g a e z. absurd (omega (arith, z)))
       (λ a b d n e z. record { start-inside = a; in-order = b; end-inside = d; all-there = n; reads = read-whole size s at (sym e) })
       refl h
+
+  pub whole-next : Whole → windowStop size s at .taken ≡ nextAt s at
+  whole-next h = sym next-is ∙ ap (λ (r : ReadWindow). r .next) (h .reads)
 
 -- ---- several windows, and the first of them
 
@@ -192,7 +198,7 @@ module _ (size : ℕ) (s : List ℕ) where
       by-test (eqb (windowStop size s at .number) done)
       (λ e. let w = is-whole size s at (eqb-true (windowStop size s at .number) done e) in
       let t : readWindowOf size s at .next ≡ nextAt s at = ap (λ (r : ReadWindow). r .next) (w .reads) in
-      let u : windowStop size s at .taken ≡ nextAt s at = sym (next-is size s at) ∙ t in
+      let u : windowStop size s at .taken ≡ nextAt s at = whole-next size s at w in
       (w, rw (e, o, t), rw (o, t) (rw (e, u) at z)))
       (λ e. absurd (eqb-false (windowStop size s at .number) done e (rw e at z)))
 
@@ -200,3 +206,25 @@ module _ (size : ℕ) (s : List ℕ) where
   unfolding windowsOf
   windows-list-none zero at h = refl
   windows-list-none (suc n) at h = absurd (omega (arith, h))
+
+  -- whole windows lie inside the stream
+  pub windows-inside : (n at : ℕ) → at ≤ length s → windowsStop size s n at .number ≡ done → windowsStop size s n at .taken ≤ length s
+  unfolding windowsStop
+  windows-inside zero at g h = g
+  windows-inside (suc n) at g h =
+      by-test (eqb (windowStop size s at .number) done)
+      (λ e. let w = is-whole size s at (eqb-true (windowStop size s at .number) done e) in
+      let u : windowStop size s at .taken ≡ nextAt s at = whole-next size s at w in
+      rw (e, u) (windows-inside n (nextAt s at) (w .all-there) (rw (e, u) at h)))
+      (λ e. absurd (eqb-false (windowStop size s at .number) done e (rw e at h)))
+
+  -- as many as were announced
+  pub windows-length : (n at : ℕ) → windowsStop size s n at .number ≡ done → length (windowsOf size s n at) ≡ n
+  unfolding windowsStop windowsOf
+  windows-length zero at h = refl
+  windows-length (suc n) at h =
+      by-test (eqb (windowStop size s at .number) done)
+      (λ e. let w = is-whole size s at (eqb-true (windowStop size s at .number) done e) in
+      let u : windowStop size s at .taken ≡ nextAt s at = whole-next size s at w in
+      rw e (ap suc (windows-length n (nextAt s at) (rw (e, u) at h))))
+      (λ e. absurd (eqb-false (windowStop size s at .number) done e (rw e at h)))

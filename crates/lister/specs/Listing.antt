@@ -19,24 +19,29 @@ use Rattle.lister.specs.Windows.{windowsStop, windowsOf}
 unfoldable pub preambleAt : ℕ → ℕ
 preambleAt mode = pick (eqb mode two-preambles) 1 0
 
--- after that preamble at p: control, external address (low byte first), count; from 6 on the windows
+-- from that preamble at p on: preamble, control, external address (low byte first), count; then the windows
+abbrev pub head-length : ℕ
+head-length = 6
+
 abbrev pub controlAt : List ℕ → ℕ → ℕ
 controlAt s p = getD s (p + 1) 0
 
+-- the count byte is the ones' complement of the number of windows
 abbrev pub countAt : List ℕ → ℕ → ℕ
 countAt s p = 255 - getD s (p + 5) 0
 
+-- 5 at a preamble, 16 where the stream is used up before its windows; a device freshly reset gives no 6, and a write no 7
 abbrev pub headRows : ℕ → List ℕ → List Row
 headRows mode s =
     (ltb 0 (length s) && not (eqb (getD s 0 0) preamble) gives no-preamble after 1)
     ∷ (eqb mode two-preambles && ltb 1 (length s) && not (eqb (getD s 1 0) preamble) gives no-preamble after 2)
-    ∷ (ltb (length s) (preambleAt mode + 6) gives more after (length s))
+    ∷ (ltb (length s) (preambleAt mode + head-length) gives more after (length s))
     ∷ []
 
 unfoldable pub headStop : ℕ → List ℕ → Stop
-headStop mode s = firstStop (headRows mode s) (stop done (preambleAt mode + 6))
+headStop mode s = firstStop (headRows mode s) (stop done (preambleAt mode + head-length))
 
--- the check byte, of the only device: 4D accepts
+-- the check byte of the only device: 16, 8, 9, 10, and 4D accepts
 abbrev pub checkRows : ℕ → List ℕ → ℕ → List Row
 checkRows control s at =
     (leb (length s) at gives more after (length s))
@@ -84,7 +89,7 @@ listedOf s p e =
 
 -- and the windows that are listed: none unless the number is 0
 unfoldable pub listingOf : ℕ → List ℕ → ℕ → Stop → List ReadWindow
-listingOf size s p e = pick (eqb (e .number) done) (windowsOf size s (countAt s p) (p + 6)) []
+listingOf size s p e = pick (eqb (e .number) done) (windowsOf size s (countAt s p) (p + head-length)) []
 
 -- their starts, their ends, and the offsets of their first data bytes from the preamble at p
 abbrev pub startsOf : List ReadWindow → List ℕ

@@ -15,7 +15,6 @@ pub data Row : Type 0 where
   _gives_after_ : Bool → ℕ → ℕ → Row
 
 infix 25 _gives_after_
-
 -- the first whose condition holds, e where none does
 abbrev pub firstStop : List Row → Stop → Stop
 firstStop [] e = e

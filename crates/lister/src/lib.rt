@@ -2,6 +2,7 @@
 pub mod stream;
 pub mod window;
 
+use crate::stream::HEAD_LENGTH;
 use crate::stream::Stop;
 use crate::stream::preamble_at;
 use crate::stream::read_stream;
@@ -14,7 +15,7 @@ ghost use lib.ListN.{length};
 ghost use lib.Seq.{sets};
 ghost use Rattle.chain.specs.Paper.{done};
 ghost use Rattle.lister.specs.Windows.{windowsStop, windowsOf};
-ghost use Rattle.lister.specs.Listing.{listStop, listedOf, startsOf, endsOf, offsetsOf, Lists};
+ghost use Rattle.lister.specs.Listing.{head-length, listStop, listedOf, startsOf, endsOf, offsetsOf, Lists};
 
 // All but the number and the bytes taken are 0 unless the number is 0.
 #[repr(C)]
@@ -59,7 +60,7 @@ fn look(size: u16, mode: u8, s: &[u8], a: usize, b: usize, c: usize) -> Stop
 
 // What is answered where the reading stopped so, the preamble before the control byte at p.
 fn answer(s: &[u8], p: usize, e: Stop) -> Listed
-    requires { ⌜ (p ≤ 1) × (e .taken < 2 ^ 32) × (e .number ≡ done → p + 6 ≤ length (now s)) ⌝ }
+    requires { ⌜ (p ≤ 1) × (e .taken < 2 ^ 32) × (e .number ≡ done → p + head-length ≤ length (now s)) ⌝ }
     ensures { λ r. ⌜ r ≡ listedOf (now (s .entry)) p e ⌝ }
 {
     let taken = e.taken as u32;
@@ -84,14 +85,22 @@ fn answer(s: &[u8], p: usize, e: Stop) -> Listed
 }
 
 // The tables of n windows that are known to be whole and to fit, the preamble before their control byte at p.
-fn fill(size: u16, s: &[u8], n: usize, p: usize, starts: &mut [u16], ends: &mut [u16], offsets: &mut [u32])
-    requires { ⌜ (windowsStop size (now s) n (p + 6) .number ≡ done) × (p ≤ 1) × (n ≤ 255)
+fn fill(
+    size: u16,
+    s: &[u8],
+    n: usize,
+    p: usize,
+    starts: &mut [u16],
+    ends: &mut [u16],
+    offsets: &mut [u32],
+)
+    requires { ⌜ (windowsStop size (now s) n (p + head-length) .number ≡ done) × (p ≤ 1) × (n ≤ 255)
         × (n ≤ length (now starts)) × (n ≤ length (now ends)) × (n ≤ length (now offsets)) ⌝ }
-    ensures { λ _. ⌜ now (starts .exit) ≡ sets (now (starts .entry)) 0 (startsOf (windowsOf size (now (s .entry)) n (p + 6))) ⌝ }
-    ensures { λ _. ⌜ now (ends .exit) ≡ sets (now (ends .entry)) 0 (endsOf (windowsOf size (now (s .entry)) n (p + 6))) ⌝ }
-    ensures { λ _. ⌜ now (offsets .exit) ≡ sets (now (offsets .entry)) 0 (offsetsOf p (windowsOf size (now (s .entry)) n (p + 6))) ⌝ }
+    ensures { λ _. ⌜ now (starts .exit) ≡ sets (now (starts .entry)) 0 (startsOf (windowsOf size (now (s .entry)) n (p + head-length))) ⌝ }
+    ensures { λ _. ⌜ now (ends .exit) ≡ sets (now (ends .entry)) 0 (endsOf (windowsOf size (now (s .entry)) n (p + head-length))) ⌝ }
+    ensures { λ _. ⌜ now (offsets .exit) ≡ sets (now (offsets .entry)) 0 (offsetsOf p (windowsOf size (now (s .entry)) n (p + head-length))) ⌝ }
 {
-    let mut at = p + 6;
+    let mut at = p + HEAD_LENGTH;
     let mut i: usize = 0;
     while i < n {
         let w = read_window(size, s, at);
@@ -104,7 +113,14 @@ fn fill(size: u16, s: &[u8], n: usize, p: usize, starts: &mut [u16], ends: &mut 
 }
 
 // Lists a stream in a mode, read as a write; in modes 3 and 4 it is the hunted bytes. Two passes: nothing is written before the number is known to be 0.
-pub fn list(kind: u8, mode: u8, s: &[u8], starts: &mut [u16], ends: &mut [u16], offsets: &mut [u32]) -> Listed
+pub fn list(
+    kind: u8,
+    mode: u8,
+    s: &[u8],
+    starts: &mut [u16],
+    ends: &mut [u16],
+    offsets: &mut [u32],
+) -> Listed
     ensures { λ r. ⌜ Lists kind mode (now (s .entry)) (now (starts .entry)) (now (ends .entry)) (now (offsets .entry)) r (now (starts .exit)) (now (ends .exit)) (now (offsets .exit)) ⌝ }
 {
     let size = size_of(kind);

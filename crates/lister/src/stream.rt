@@ -10,6 +10,9 @@ ghost use Rattle.lister.specs.Stops.{stop};
 ghost use Rattle.lister.specs.Windows.{windowsStop};
 ghost use Rattle.lister.specs.Listing.{preambleAt, headStop, checkStop, streamStop};
 
+// Preamble, control byte, three of address, count; then the windows.
+pub const HEAD_LENGTH: usize = 6;
+
 // Where a reading stops: the number, and the bytes taken.
 pub struct Stop {
     pub number: u8,
@@ -58,7 +61,7 @@ fn head(mode: u8, s: &[u8]) -> Stop
         };
     }
     if mode != TWO_PREAMBLES {
-        return up_to(n, 6);
+        return up_to(n, HEAD_LENGTH);
     }
     if n == 1 {
         return Stop {
@@ -72,7 +75,7 @@ fn head(mode: u8, s: &[u8]) -> Stop
             taken: 2,
         };
     }
-    up_to(n, 7)
+    up_to(n, HEAD_LENGTH + 1)
 }
 
 // Windows one after another from a position on, up to the first that is not whole.

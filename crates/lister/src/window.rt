@@ -4,8 +4,8 @@ ghost use mathlib.Core.Path.{_≡_};
 ghost use Prim.Native.Nat.{_+_, _-_, _*_};
 ghost use Rattle.lister.specs.Windows.{readWindowOf};
 
-// The number; the window's bounds, where its first data byte stands, and the position after the last byte taken. Where
-// the number is not 0 the first three are 0, and the last is that of the refused byte and one more, or the stream's end.
+// The window's bounds, the position of its first data byte, and the position after its last. Where the number is not 0
+// the first three are 0, and next is the position after the refused byte, or the length of a stream that is used up.
 pub struct ReadWindow {
     pub number: u8,
     pub start: u16,

@@ -10,7 +10,7 @@ use Rattle.chain.specs.declared.Place.{Place}
 use Rattle.chain.specs.Paper.{no-windows, at·null, at·check, more}
 use Rattle.chain.specs.Rules.{pick}
 use Rattle.chain.specs.Set.{with·awaited, with·left, with·next, with·mismatches, with·place}
-use Rattle.chain.proofs.Tests.{by-test}
+use Rattle.chain.proofs.ByCases.{by-test}
 use Rattle.machine.specs.Byte.{Row, _⇒_, rowOf, noWindow, passedOf, advanceRows, advanceOf, numberOf}
 use Rattle.machine.specs.Run.{registersOf, missedOf, counted, ended, Run, run, wentOn, stepOf, onByte, runOf}
 

@@ -4,11 +4,10 @@ use mathlib.Core.Bool.{Bool, true, false, _&&_, and-false}
 use mathlib.Core.Path.{_≡_, refl, ap, sym, _∙_}
 use mathlib.Core.List.{List, [], _∷_}
 use lib.Dec.{eqb}
-use borrow.Author.Tests.{eqb-true}
 use Rattle.chain.specs.declared.Chain.{Chain}
 use Rattle.chain.specs.declared.Place.{Place}
 use Rattle.chain.specs.Paper.{writing, checking, more}
-use Rattle.chain.proofs.Tests.{by-test}
+use Rattle.chain.proofs.ByCases.{by-test}
 use Rattle.machine.specs.Byte.{numberOf, advanceOf}
 use Rattle.machine.specs.Run.{writes, memoryOf, registersOf, missedOf, counted, loads, Run, stepOf, onByte, runOf}
 use Rattle.machine.proofs.Frame.{advance-frame}
@@ -16,11 +15,6 @@ use Rattle.machine.proofs.Frame.{advance-frame}
 -- ---- one byte
 
 module _ (c : Chain) (m : List ℕ) (b : ℕ) where
-  -- the number of a step is that of its byte
-  pub step-number : stepOf c m b .number ≡ numberOf c b
-  unfolding stepOf
-  step-number = by-test (eqb (numberOf c b) more) (λ e. rw e (sym (eqb-true (numberOf c b) more e))) (λ e. rw e refl)
-
   -- a byte that ends the run, refused or not, changes no cell and no register
   pub ended-keeps : (stepOf c m b .number ≡ more → ⊥) → (stepOf c m b .memory ≡ m) × (stepOf c m b .chain .registers ≡ c .registers)
   unfolding stepOf

@@ -9,11 +9,12 @@ use borrow.Author.Tests.{eqb-true, eqb-false}
 use Rattle.chain.specs.declared.Chain.{Chain}
 use Rattle.chain.specs.Paper.{at·data, writing, checking, more}
 use Rattle.chain.specs.Rules.{pick}
-use Rattle.chain.proofs.Tests.{by-test}
+use Rattle.chain.proofs.ByCases.{by-test}
 use Rattle.machine.specs.Byte.{awaits, checks, numberOf}
 use Rattle.machine.specs.Run.{writes, addressOf, memoryOf, missedOf, Run, run, wentOn, stepOf, onByte, runOf}
 use Rattle.machine.proofs.Feed.{run-over}
-use Rattle.machine.proofs.Kept.{step-number, step-check, unwritten-run}
+use Rattle.machine.proofs.Kept.{step-check, unwritten-run}
+use Rattle.machine.proofs.Runs.{step-number}
 
 -- a cell of the chain's memory and the byte that goes there
 pub record Put : Type 0 where

@@ -11,7 +11,7 @@ use borrow.Author.Tests.{eqb-true, eqb-false, eq-eqb, ne-eqb}
 use Rattle.chain.specs.declared.Chain.{Chain}
 use Rattle.chain.specs.Paper.{more}
 use Rattle.chain.specs.Rules.{pick}
-use Rattle.chain.proofs.Tests.{by-test}
+use Rattle.chain.proofs.ByCases.{by-test}
 use Rattle.machine.specs.Byte.{numberOf}
 use Rattle.machine.specs.Run.{missedOf, counted, Run, stepOf, onByte, runOf}
 use Rattle.machine.proofs.Frame.{advance-frame}

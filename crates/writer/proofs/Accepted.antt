@@ -7,16 +7,13 @@ use native.Mathlib.Omega.{arith}
 use borrow.Author.Tests.{ltb-false, leb-true, ltb-true, eqb-true, eqb-false, lt-ltb, le-ltb, le-leb, eq-eqb, ne-eqb, not-false}
 use lib.Dec.{eqb, ltb, leb}
 use lib.ListN.{length}
+use Rattle.chain.proofs.ByCases.{by-test}
 use Rattle.chain.specs.Paper.{first-mode, two-preambles, done, bad-start, bad-end}
 use Rattle.chain.specs.Rules.{pick}
 use Rattle.chain.specs.Kinds.{sizeOf}
 use Rattle.writer.specs.Stream.{leadIn, streamOf}
 use Rattle.writer.specs.Write.{most-windows, windowsNumber, sumOf, numberOf, writeNumber}
 use Rattle.writer.proofs.Parts.{stream-length}
-
-pub by-test {ℓ} : {P : Type ℓ} (b : Bool) → (b ≡ true → P) → (b ≡ false → P) → P
-by-test true f g = f refl
-by-test false f g = g refl
 
 -- 0 comes from no rule
 none : (b : Bool) (n x : ℕ) → (n ≡ 0 → ⊥) → pick b n x ≡ 0 → (b ≡ false) × (x ≡ 0)

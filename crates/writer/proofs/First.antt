@@ -9,9 +9,10 @@ use native.Mathlib.Nat.{le-of-suc-le-suc, not-suc-le-zero}
 use borrow.Author.Tests.{ltb-true, ltb-false, lt-ltb, le-ltb, not-true, not-false}
 use lib.Dec.{ltb}
 use lib.ListN.{length, take, getD}
+use Rattle.chain.proofs.ByCases.{by-test}
 use Rattle.chain.specs.Paper.{done, bad-start, bad-end}
 use Rattle.writer.specs.Write.{windowsNumber}
-use Rattle.writer.proofs.Accepted.{by-test, both-false, Within, within-done}
+use Rattle.writer.proofs.Accepted.{both-false, Within, within-done}
 
 -- window i is there, and all before it are within the size
 pub record UpTo (size : ℕ) (ss es : List ℕ) (i : ℕ) : Type 0 where

@@ -1,68 +1,52 @@
-use Prim.Native.Nat.{ℕ, _+_, _-_, _≤_, _<_}
+use Prim.Native.Nat.{_+_}
 use native.Mathlib.Omega.{arith}
-use borrow.Author.Tests.{eq-eqb, ne-eqb}
+use borrow.Author.Tests.{ne-eqb}
 use Rattle.chain.specs.Paper.{done}
 use Rattle.lister.specs.Listing.{listedOf}
 use borrow.Author.Needs.{needs}
 use Rattle.lister.proofs.answer.Statement.{statement}
 use Rattle.lister.proofs.answer.Tie as tie
-use Rattle.lister.proofs.answer.Reads as reads
-use Rattle.lister.proofs.answer.Lts as lts
 
--- src/lib.rt:65:17
 cast-taken : tie.Need-cast-taken
 cast-taken c = search needs
 
--- src/lib.rt:68:9
 returns : tie.Need-returns
 unfolding listedOf
 returns c = rw (ne-eqb ((c .before .before .before .args) .e .number) done (c .if1 .taken))
 
--- src/lib.rt:76:22
 add-t8 : tie.Need-add-t8
 add-t8 c = search needs
 
--- src/lib.rt:76:20
 shared-slice-read-t10 : tie.Need-shared-slice-read-t10
 shared-slice-read-t10 c = let h = (c .before .before .before .before .pre) .2 (c .before .if1 .left) in omega arith
 
--- src/lib.rt:76:32
 add-t11 : tie.Need-add-t11
 add-t11 c = search needs
 
--- src/lib.rt:76:30
 shared-slice-read-t13 : tie.Need-shared-slice-read-t13
 shared-slice-read-t13 c = let h = (c .before .before .before .before .before .pre) .2 (c .before .before .if1 .left) in omega arith
 
--- src/lib.rt:76:42
 add-t14 : tie.Need-add-t14
 add-t14 c = search needs
 
--- src/lib.rt:76:40
 shared-slice-read-t16 : tie.Need-shared-slice-read-t16
 shared-slice-read-t16 c = let h = (c .before .before .before .before .before .before .pre) .2 (c .before .before .before .if1 .left) in omega arith
 
--- src/lib.rt:79:26
 add-t8-2 : tie.Need-add-t8-2
 add-t8-2 c = search needs
 
--- src/lib.rt:79:24
 shared-slice-read-t16-2 : tie.Need-shared-slice-read-t16-2
 shared-slice-read-t16-2 c = let h = (c .before .before .before .before .before .before .before .pre) .2 (c .before .before .before .before .if1 .left) in omega arith
 
--- src/lib.rt:79:18
 sub-t10 : tie.Need-sub-t10
 sub-t10 c = omega (arith, (c .shared-slice-known4 .given) ((c .before .before .before .before .before .before .before .args) .p + 5))
 
--- src/lib.rt:80:20
 add-t14-2 : tie.Need-add-t14-2
 add-t14-2 c = search needs
 
--- src/lib.rt:80:18
 shared-slice-read-t13-2 : tie.Need-shared-slice-read-t13-2
 shared-slice-read-t13-2 c = let h = (c .before .before .before .before .before .before .before .before .pre) .2 (c .before .before .before .before .before .if1 .left) in omega arith
 
--- src/lib.rt:61:1
 returns-2 : tie.Need-returns-2
 unfolding listedOf
 returns-2 c = rw (c .before .before .before .before .before .if1 .left)

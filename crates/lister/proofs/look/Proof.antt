@@ -1,8 +1,6 @@
-use Prim.Native.Nat.{ℕ, _+_, _-_, _≤_, _<_}
-use mathlib.Core.Path.{_≡_, refl, ap, sym, _∙_}
+use Prim.Native.Nat.{_+_}
+use mathlib.Core.Path.{ap, sym, _∙_}
 use native.Mathlib.Omega.{arith}
-use borrow.Author.Tests.{eq-eqb, ne-eqb}
-use Rattle.chain.specs.Paper.{done}
 use Rattle.chain.proofs.Tests.{tests}
 use Rattle.lister.specs.Listing.{listStop}
 use Rattle.lister.specs.declared.stream.Stop.{Stop}
@@ -10,56 +8,41 @@ use Rattle.lister.proofs.Listings.{stream-done}
 use borrow.Author.Needs.{needs}
 use Rattle.lister.proofs.look.Statement.{statement}
 use Rattle.lister.proofs.look.Tie as tie
-use Rattle.lister.proofs.look.Reads as reads
-use Rattle.lister.proofs.look.Lts as lts
-use Rattle.lister.proofs.stream.preamble_at.Reads as preamble-at-reads
-use Rattle.lister.proofs.stream.read_stream.Reads as read-stream-reads
 
--- src/lib.rt:34:9
 returns : tie.Need-returns
 unfolding listStop
 returns c = search tests
 
--- src/lib.rt:40:9
 returns-2 : tie.Need-returns-2
 unfolding listStop
 returns-2 c = simp ((c .if2 .taken)) (search tests)
 
--- src/lib.rt:45:9
 read-stream-requires : tie.Need-read-stream-requires
 read-stream-requires c κs = search needs
 
--- src/lib.rt:47:9
 returns-3 : tie.Need-returns-3
 unfolding listStop
 returns-3 c = simp ((c .before .before .before .if2 .left), ← (c .before .before .read-stream .ensures)) (search tests)
 
--- src/lib.rt:49:9
 preamble-at-requires : tie.Need-preamble-at-requires
 preamble-at-requires c κs = search needs
 
--- src/lib.rt:50:22
 add-n : tie.Need-add-n
 add-n c = search needs
 
--- src/lib.rt:50:20
 shared-slice-read-n : tie.Need-shared-slice-read-n
 shared-slice-read-n c = let a = (c .before .before .before .before .before .before .before .before .args) in let h = stream-done (a .size) (a .mode) (a .s .now) (ap (λ (e : Stop). e .number) (sym (c .before .before .before .before .read-stream .ensures)) ∙ (c .before .before .if3 .left)) in omega arith
 
--- src/lib.rt:50:14
 sub-n : tie.Need-sub-n
 sub-n c = omega (arith, (c .shared-slice-known2 .given) ((c .before .preamble-at .result) + 5))
 
--- src/lib.rt:50:13
 cast-n : tie.Need-cast-n
 cast-n c = search needs
 
--- src/lib.rt:52:9
 returns-4 : tie.Need-returns-4
 unfolding listStop
 returns-4 c = simp ((c .before .before .before .before .before .before .if2 .left), ← (c .before .before .before .before .before .read-stream .ensures), ← (c .before .before .preamble-at .ensures .0), (c .if4 .taken)) (search tests)
 
--- src/lib.rt:30:1
 returns-5 : tie.Need-returns-5
 unfolding listStop
 returns-5 c = simp ((c .before .before .before .before .before .before .if2 .left), ← (c .before .before .before .before .before .read-stream .ensures), ← (c .before .before .preamble-at .ensures .0), (c .if4 .left)) (search tests)

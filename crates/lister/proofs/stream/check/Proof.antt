@@ -3,38 +3,29 @@ use Rattle.lister.specs.Listing.{checkStop}
 use borrow.Author.Needs.{needs}
 use Rattle.lister.proofs.stream.check.Statement.{statement}
 use Rattle.lister.proofs.stream.check.Tie as tie
-use Rattle.lister.proofs.stream.check.Reads as reads
-use Rattle.lister.proofs.stream.check.Lts as lts
 
--- src/stream.rt:107:9
 returns : tie.Need-returns
 unfolding checkStop
 returns c = search tests
 
--- src/stream.rt:112:13
 shared-slice-read-b : tie.Need-shared-slice-read-b
 shared-slice-read-b c = search needs
 
--- src/stream.rt:113:17
 add-taken : tie.Need-add-taken
 add-taken c = search needs
 
--- src/stream.rt:115:9
 returns-2 : tie.Need-returns-2
 unfolding checkStop
 returns-2 c = simp ((c .if2 .taken)) (search tests)
 
--- src/stream.rt:121:9
 returns-3 : tie.Need-returns-3
 unfolding checkStop
 returns-3 c = search tests
 
--- src/stream.rt:127:9
 returns-4 : tie.Need-returns-4
 unfolding checkStop
 returns-4 c = search tests
 
--- src/stream.rt:102:1
 returns-5 : tie.Need-returns-5
 unfolding checkStop
 returns-5 c = search tests

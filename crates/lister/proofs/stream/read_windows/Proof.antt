@@ -1,15 +1,11 @@
-use mathlib.Core.Path.{_≡_, refl, ap, sym, _∙_}
+use mathlib.Core.Path.{_≡_, refl, sym, _∙_}
 use borrow.Author.Tests.{eq-eqb, ne-eqb}
 use Rattle.chain.specs.Paper.{done}
-use Rattle.chain.proofs.Tests.{tests}
 use Rattle.lister.specs.Windows.{windowsStop}
 use Rattle.lister.proofs.Windows.{windows-more, windows-none}
 use borrow.Author.Needs.{needs}
 use Rattle.lister.proofs.stream.read_windows.Statement.{statement}
 use Rattle.lister.proofs.stream.read_windows.Tie as tie
-use Rattle.lister.proofs.stream.read_windows.Reads as reads
-use Rattle.lister.proofs.stream.read_windows.Lts as lts
-use Rattle.lister.proofs.window.read_window.Reads as read-window-reads
 
 abbrev Inv-loop : tie.InvT-loop
 Inv-loop size s n from left₀ at₀ left at = windowsStop size s n from ≡ windowsStop size s left at
@@ -17,33 +13,26 @@ Inv-loop size s n from left₀ at₀ left at = windowsStop size s n from ≡ win
 abbrev μ-loop : tie.MeasureT-loop
 μ-loop size s n from left₀ at₀ left at = left
 
--- src/stream.rt:84:5
 loop-holds : tie.Need-loop-holds Inv-loop μ-loop
 loop-holds c = refl
 
--- src/stream.rt:85:13
 read-window-requires : tie.Need-read-window-requires Inv-loop μ-loop
 read-window-requires c κs = search needs
 
--- src/stream.rt:87:13
 returns : tie.Need-returns Inv-loop μ-loop
 returns c = let a = (c .before .before .before .before .before .before .args) in let l = (c .before .before .before .before .loop) in let e = (c .before .before .before .before .loop .inv) ∙ windows-more (a .size) (a .s .now) (l .left) (l .at) (search needs) in
     sym (rw (← (c .before .before .read-window .ensures)) at e ∙ rw (ne-eqb _ done (c .if1 .taken)))
 
--- src/stream.rt:93:9
 sub-left : tie.Need-sub-left Inv-loop μ-loop
 sub-left c = search needs
 
--- src/stream.rt:84:5
 loop-less : tie.Need-loop-less Inv-loop μ-loop
 loop-less c = search needs
 
--- src/stream.rt:84:5
 loop-again : tie.Need-loop-again Inv-loop μ-loop
 loop-again c = let a = (c .before .before .before .before .before .before .args) in let l = (c .before .before .before .before .loop) in let e = (c .before .before .before .before .loop .inv) ∙ windows-more (a .size) (a .s .now) (l .left) (l .at) (search needs) in
     rw (← (c .before .before .read-window .ensures)) at e ∙ rw (eq-eqb _ done (c .if1 .left))
 
--- src/stream.rt:79:1
 returns-2 : tie.Need-returns-2 Inv-loop μ-loop
 returns-2 c = let a = (c .before .before .before .args) in let l = (c .before .loop) in sym ((c .before .loop .inv) ∙ windows-none (a .size) (a .s .now) (l .left) (l .at) (search needs))
 

@@ -1,14 +1,10 @@
 use Rattle.chain.proofs.Tests.{tests}
 use Rattle.lister.proofs.stream.up_to.Statement.{statement}
 use Rattle.lister.proofs.stream.up_to.Tie as tie
-use Rattle.lister.proofs.stream.up_to.Reads as reads
-use Rattle.lister.proofs.stream.up_to.Lts as lts
 
--- src/stream.rt:32:9
 returns : tie.Need-returns
 returns c = search tests
 
--- src/stream.rt:28:1
 returns-2 : tie.Need-returns-2
 returns-2 c = search tests
 

@@ -1,139 +1,102 @@
 use Prim.Native.Nat.{_+_}
-use mathlib.Core.Path.{_≡_, refl, ap, sym, _∙_}
-use native.Mathlib.Omega.{arith}
-use Rattle.chain.specs.Paper.{done, bad-start, bad-end, more}
+use mathlib.Core.Path.{refl, sym, _∙_}
+use Rattle.chain.specs.Paper.{bad-start, bad-end, more}
 use lib.ListN.{length}
 use Rattle.lister.proofs.Windows.{no-start, start-bad, no-end, end-below, end-past, no-data, whole, read-stopped, read-whole}
 use borrow.Author.Needs.{needs}
 use Rattle.lister.proofs.window.read_window.Statement.{statement}
 use Rattle.lister.proofs.window.read_window.Tie as tie
-use Rattle.lister.proofs.window.read_window.Reads as reads
-use Rattle.lister.proofs.window.read_window.Lts as lts
-use Rattle.lister.proofs.window.rest.Reads as rest-reads
-use Rattle.lister.proofs.window.stopped.Reads as stopped-reads
-use Rattle.lister.proofs.window.word.Reads as word-reads
 
--- src/window.rt:47:9
 rest-requires : tie.Need-rest-requires
 rest-requires c κs = search needs
 
--- src/window.rt:49:9
 stopped-requires : tie.Need-stopped-requires
 stopped-requires c κs = search needs
 
--- src/window.rt:49:9
 returns : tie.Need-returns
 returns c = let a = (c .before .before .before .before .args) in (c .stopped .ensures) ∙ sym (read-stopped (a .size) (a .s .now) (a .at) more (length (a .s .now)) refl (no-start (a .size) (a .s .now) (a .at) (search needs)))
 
--- src/window.rt:51:24
 add-word : tie.Need-add-word
 add-word c = search needs
 
--- src/window.rt:51:22
 shared-slice-read-word : tie.Need-shared-slice-read-word
 shared-slice-read-word c = search needs
 
--- src/window.rt:51:35
 add-word-2 : tie.Need-add-word-2
 add-word-2 c = search needs
 
--- src/window.rt:51:33
 shared-slice-read-word-2 : tie.Need-shared-slice-read-word-2
 shared-slice-read-word-2 c = search needs
 
--- src/window.rt:51:9
 word-requires : tie.Need-word-requires
 word-requires c κs = search needs
 
--- src/window.rt:53:35
 add-stopped : tie.Need-add-stopped
 add-stopped c = search needs
 
--- src/window.rt:53:9
 stopped-requires-2 : tie.Need-stopped-requires-2
 stopped-requires-2 c κs = search needs
 
--- src/window.rt:53:9
 returns-2 : tie.Need-returns-2
 returns-2 c = let a = (c .before .before .before .before .before .before .before .before .args) in (c .stopped2 .ensures) ∙ sym (read-stopped (a .size) (a .s .now) (a .at) bad-start (a .at + 3) refl (start-bad (a .size) (a .s .now) (a .at) (search needs) (search needs)))
 
--- src/window.rt:56:9
 stopped-requires-3 : tie.Need-stopped-requires-3
 stopped-requires-3 c κs = search needs
 
--- src/window.rt:56:9
 returns-3 : tie.Need-returns-3
 returns-3 c = let a = (c .before .before .before .before .before .before .before .before .before .args) in (c .stopped3 .ensures) ∙ sym (read-stopped (a .size) (a .s .now) (a .at) more (length (a .s .now)) refl (no-end (a .size) (a .s .now) (a .at) (search needs) (search needs)))
 
--- src/window.rt:58:22
 add-word-3 : tie.Need-add-word-3
 add-word-3 c = search needs
 
--- src/window.rt:58:20
 shared-slice-read-word-3 : tie.Need-shared-slice-read-word-3
 shared-slice-read-word-3 c = search needs
 
--- src/window.rt:58:33
 add-word-4 : tie.Need-add-word-4
 add-word-4 c = search needs
 
--- src/window.rt:58:31
 shared-slice-read-word-4 : tie.Need-shared-slice-read-word-4
 shared-slice-read-word-4 c = search needs
 
--- src/window.rt:58:9
 word-requires-2 : tie.Need-word-requires-2
 word-requires-2 c κs = search needs
 
--- src/window.rt:60:33
 add-stopped-2 : tie.Need-add-stopped-2
 add-stopped-2 c = search needs
 
--- src/window.rt:60:9
 stopped-requires-4 : tie.Need-stopped-requires-4
 stopped-requires-4 c κs = search needs
 
--- src/window.rt:60:9
 returns-4 : tie.Need-returns-4
 returns-4 c = let a = (c .before .before .before .before .before .before .before .before .before .before .before .before .before .args) in (c .stopped4 .ensures) ∙ sym (read-stopped (a .size) (a .s .now) (a .at) bad-end (a .at + 5) refl (end-below (a .size) (a .s .now) (a .at) (search needs) (search needs) (search needs)))
 
--- src/window.rt:63:33
 add-stopped-3 : tie.Need-add-stopped-3
 add-stopped-3 c = search needs
 
--- src/window.rt:63:9
 stopped-requires-5 : tie.Need-stopped-requires-5
 stopped-requires-5 c κs = search needs
 
--- src/window.rt:63:9
 returns-5 : tie.Need-returns-5
 returns-5 c = let a = (c .before .before .before .before .before .before .before .before .before .before .before .before .before .before .args) in (c .stopped5 .ensures) ∙ sym (read-stopped (a .size) (a .s .now) (a .at) bad-end (a .at + 5) refl (end-past (a .size) (a .s .now) (a .at) (search needs) (search needs) (search needs) (search needs)))
 
--- src/window.rt:65:17
 cast-width : tie.Need-cast-width
 cast-width c = search needs
 
--- src/window.rt:65:17
 add-width : tie.Need-add-width
 add-width c = search needs
 
--- src/window.rt:67:9
 stopped-requires-6 : tie.Need-stopped-requires-6
 stopped-requires-6 c κs = search needs
 
--- src/window.rt:67:9
 returns-6 : tie.Need-returns-6
 returns-6 c = let a = (c .before .before .before .before .before .before .before .before .before .before .before .before .before .before .before .args) in (c .stopped6 .ensures) ∙ sym (read-stopped (a .size) (a .s .now) (a .at) more (length (a .s .now)) refl (no-data (a .size) (a .s .now) (a .at) (search needs) (search needs) (search needs) (search needs)))
 
--- src/window.rt:69:17
 add-first : tie.Need-add-first
 add-first c = search needs
 
--- src/window.rt:75:15
 add-t11 : tie.Need-add-t11
 add-t11 c = search needs
 
--- src/window.rt:43:1
 returns-7 : tie.Need-returns-7
 returns-7 c = let a = (c .before .before .before .before .before .before .before .before .before .before .before .before .before .before .args) in sym (read-whole (a .size) (a .s .now) (a .at) (whole (a .size) (a .s .now) (a .at) (search needs) (search needs) (search needs) (search needs)) ∙ rw ((c .before .before .before .before .before .before .before .before .word .ensures), (c .before .before .before .word2 .ensures)))
 

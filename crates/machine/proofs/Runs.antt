@@ -1,0 +1,119 @@
+-- One step, and a run byte by byte: it goes on or it is over. Assumes nothing.
+use Prim.Native.Nat.{ℕ, _<_}
+use mathlib.Core.Bool.{Bool, _&&_}
+use mathlib.Core.Path.{_≡_, refl, ap, sym, _∙_}
+use mathlib.Core.List.{List, [], _∷_}
+use borrow.Author.Tests.{eq-eqb, ne-eqb, eqb-true, eqb-false}
+use lib.Dec.{eqb}
+use lib.ListN.{length, set, length-set}
+use Rattle.chain.specs.declared.Chain.{Chain}
+use Rattle.chain.specs.Paper.{at·control, at·data, more}
+use Rattle.chain.specs.Rules.{pick}
+use Rattle.chain.proofs.Bytes.{Bytes}
+use Rattle.chain.proofs.ByCases.{by-test, either-way}
+use Rattle.machine.specs.Byte.{awaits, numberOf}
+use Rattle.machine.specs.Run.{addressOf, memoryOf, writes, loads, registersOf, ended, Run, run, wentOn, stepOf, onByte, runOf}
+use Rattle.machine.proofs.Feed.{run-over}
+
+module _ (c : Chain) (m : List ℕ) (b : ℕ) where
+  pub step-went : numberOf c b ≡ more → stepOf c m b ≡ run (wentOn c m b) (memoryOf c m b) more
+  unfolding stepOf
+  step-went e = rw (eq-eqb (numberOf c b) more e)
+
+  pub step-ended : (numberOf c b ≡ more → ⊥) → stepOf c m b ≡ run (ended c) m (numberOf c b)
+  unfolding stepOf
+  step-ended e = rw (ne-eqb (numberOf c b) more e)
+
+  pub step-number : stepOf c m b .number ≡ numberOf c b
+  step-number =
+      by-test (eqb (numberOf c b) more)
+      (λ e. let g = eqb-true (numberOf c b) more e in rw (step-went g) (sym g))
+      (λ e. rw (step-ended (eqb-false (numberOf c b) more e)))
+
+  pub run-went : (bs : List ℕ) → numberOf c b ≡ more
+      → runOf (run c m more) (b ∷ bs) ≡ runOf (run (wentOn c m b) (memoryOf c m b) more) bs
+  unfolding runOf
+  run-went bs e = ap (λ (r : Run). runOf r bs) (step-went e)
+
+  pub run-ended : (bs : List ℕ) → (numberOf c b ≡ more → ⊥)
+      → runOf (run c m more) (b ∷ bs) ≡ run (ended c) m (numberOf c b)
+  unfolding runOf
+  run-ended bs e = ap (λ (r : Run). runOf r bs) (step-ended e) ∙ run-over bs (run (ended c) m (numberOf c b)) e
+
+  -- open in the end, open after the first byte
+  pub run-first : (bs : List ℕ) → runOf (run c m more) (b ∷ bs) .number ≡ more → numberOf c b ≡ more
+  run-first bs n =
+      by-test (eqb (numberOf c b) more) (eqb-true (numberOf c b) more)
+      (λ e. sym (ap (λ (r : Run). r .number) (run-ended bs (eqb-false (numberOf c b) more e))) ∙ n)
+
+-- P of an open run, Q of one that is over
+pub record After (P : Chain → List ℕ → Type 0) (Q : Run → Type 0) (r : Run) : Type 0 where
+  pub going : r .number ≡ more → P (r .chain) (r .memory)
+  pub over : (r .number ≡ more → ⊥) → Q r
+
+-- what each byte keeps a run keeps
+pub run-by : (P : Chain → List ℕ → Type 0) (Q : Run → Type 0)
+    → ((c : Chain) (m : List ℕ) (b : ℕ) → b < 256 → numberOf c b ≡ more → P c m → P (wentOn c m b) (memoryOf c m b))
+    → ((c : Chain) (m : List ℕ) (b : ℕ) → (numberOf c b ≡ more → ⊥) → P c m → Q (run (ended c) m (numberOf c b)))
+    → (bs : List ℕ) → Bytes bs → (c : Chain) (m : List ℕ) → P c m → After P Q (runOf (run c m more) bs)
+unfolding runOf
+run-by P Q goes stops [] small c m x = record { going = λ _. x; over = λ n. absurd (n refl) }
+run-by P Q goes stops (b ∷ bs) small c m x =
+    by-test (eqb (numberOf c b) more)
+    (λ e.
+    let g = eqb-true (numberOf c b) more e in
+    rw (run-went c m b bs g) (run-by P Q goes stops bs (small .1) (wentOn c m b) (memoryOf c m b) (goes c m b (small .0) g x)))
+    (λ e.
+    let g = eqb-false (numberOf c b) more e in
+    rw (run-ended c m b bs g) (record { going = λ n. absurd (g n); over = λ _. stops c m b g x }))
+
+-- ---- what no byte changes, whether the run goes on or not
+
+pub record Lasts (r s : Run) : Type 0 where
+  pub count : s .chain .count ≡ r .chain .count
+  pub kinds : s .chain .kinds ≡ r .chain .kinds
+  pub registers : length (s .chain .registers) ≡ length (r .chain .registers)
+  pub memory : length (s .memory) ≡ length (r .memory)
+
+stored-length : (t : Bool) (l : List ℕ) (i b : ℕ) → length (pick t (set l i b) l) ≡ length l
+stored-length t l i b = either-way (λ (k : List ℕ). length k ≡ length l) t (set l i b) l (length-set l i b) refl
+
+same-run : (r : Run) → Lasts r r
+same-run r = record { count = refl; kinds = refl; registers = refl; memory = refl }
+
+module _ (c : Chain) (m : List ℕ) (b : ℕ) where
+  pub memory-length : length (memoryOf c m b) ≡ length m
+  unfolding memoryOf
+  memory-length = stored-length (awaits c at·data && writes c) m (addressOf c) b
+
+  pub registers-length : length (registersOf c b) ≡ length (c .registers)
+  unfolding registersOf
+  registers-length = stored-length (awaits c at·control && loads c) (c .registers) (c .place .device) b
+
+  step-lasts : (n : ℕ) → Lasts (run c m n) (stepOf c m b)
+  unfolding stepOf
+  step-lasts n =
+      either-way (Lasts (run c m n)) (eqb (numberOf c b) more) (run (wentOn c m b) (memoryOf c m b) more) (run (ended c) m (numberOf c b))
+      (record { count = refl; kinds = refl; registers = registers-length; memory = memory-length })
+      (record { count = refl; kinds = refl; registers = refl; memory = refl })
+
+byte-lasts : (r : Run) (b : ℕ) → Lasts r (onByte r b)
+byte-lasts r b =
+    either-way (Lasts r) (eqb (r .number) more) (stepOf (r .chain) (r .memory) b) r
+    (step-lasts (r .chain) (r .memory) b (r .number)) (same-run r)
+
+pub run-lasts : (bs : List ℕ) (r : Run) → Lasts r (runOf r bs)
+unfolding runOf
+run-lasts [] r = same-run r
+run-lasts (b ∷ bs) r =
+    let s = byte-lasts r b in
+    let t = run-lasts bs (onByte r b) in
+    record {
+      count = t .count ∙ s .count;
+      kinds = t .kinds ∙ s .kinds;
+      registers = t .registers ∙ s .registers;
+      memory = t .memory ∙ s .memory;
+    }
+
+pub run-length : (bs : List ℕ) (r : Run) → length (runOf r bs .memory) ≡ length (r .memory)
+run-length bs r = run-lasts bs r .memory
