@@ -126,6 +126,7 @@ looked-open (suc k) (b ∷ bs) r e h =
   where
     less : {x : ℕ} → suc x ≡ suc (length bs) → x ≡ length bs
     less q = omega arith
+
     none : 0 ≡ suc (length bs) → ⊥
     none q = omega arith
 
@@ -136,9 +137,12 @@ accepted-taken bs c m z e t = accepted-back bs c m e (λ k h. looked-open k bs (
   where
     small : c .place .taken < 2 ^ 32
     small = rw z (lit< tt)
+
     sum : (0 + looked (run c m more) bs) % 2 ^ 32 ≡ length bs
     sum = sym (subst (λ (x : ℕ). runOf (run c m more) bs .chain .place .taken ≡ (x + looked (run c m more) bs) % 2 ^ 32) z (run-taken bs (run c m more) small)) ∙ t
+
     fits : (x n : ℕ) → (0 + x) % 2 ^ 32 ≡ n → x ≤ n → x ≡ n
     fits x n q h = omega (arith, mod-le (0 + x) (2 ^ 32))
+
     all : looked (run c m more) bs ≡ length bs
     all = fits (looked (run c m more) bs) (length bs) sum (looked-most bs (run c m more))

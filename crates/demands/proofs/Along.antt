@@ -106,9 +106,9 @@ run-puts (b ∷ bs) c m w =
     let f = ap (λ (x : Run). runOf x bs) (s .0) in (
       rw e (ap (λ (x : Run). x .memory) f ∙ r .0 ∙ ap (λ (d : Chain). putAll memory (sentOf d bs) (put (slot memory (aim c)) b m)) (write-blind c m b w)),
       rw e
-      (ap (λ (x : Run). x .chain .registers) f ∙ r .1
-      ∙ ap (λ (g : List ℕ). putAll registers (sentOf (stepOf c m b .chain) bs) g) (s .1)
-      ∙ ap (λ (d : Chain). putAll registers (sentOf d bs) (put (slot registers (aim c)) b (c .registers))) (write-blind c m b w)),
+          (ap (λ (x : Run). x .chain .registers) f ∙ r .1
+          ∙ ap (λ (g : List ℕ). putAll registers (sentOf (stepOf c m b .chain) bs) g) (s .1)
+          ∙ ap (λ (d : Chain). putAll registers (sentOf d bs) (put (slot registers (aim c)) b (c .registers))) (write-blind c m b w)),
     ))
     (λ e.
     let s = step-off c m b w e in

@@ -1,3 +1,15 @@
+pub mod Exact
+pub mod Table
+pub mod Formed
+pub mod CallTables
+pub mod HuntTables
+pub mod WriteTables
+pub mod ByteTables
+pub mod ByteNumbers
+pub mod SliceTables
+pub mod ListTables
+pub mod Refused
+pub mod Demand1
 pub mod Along
 pub mod Accepted
 pub mod Puts
@@ -32,4 +44,5 @@ pub mod Demands
 pub mod StreamA
 pub mod Shut
 pub mod Eager
+pub mod Readings
 pub mod Twelve

@@ -85,19 +85,19 @@ slices-join (p ∷ ps) c m last o e b h =
     let f = open-front p (joined ps) (run c m more) h in
     let w = went c m p o e (bytes-front p (joined ps) b) f in
     let k : runOf (run (r .chain) (r .memory) more) (joined ps) .number ≡ more =
-        ap (λ (n : ℕ). runOf (run (r .chain) (r .memory) n) (joined ps) .number) (sym f)
-        ∙ sym (ap (λ (x : Run). x .number) (run-append p (joined ps) (run c m more))) ∙ h
+    ap (λ (n : ℕ). runOf (run (r .chain) (r .memory) n) (joined ps) .number) (sym f)
+    ∙ sym (ap (λ (x : Run). x .number) (run-append p (joined ps) (run c m more))) ∙ h
     in
     let j = slices-join ps (r .chain) (r .memory) last (w .open-again) (w .eight) (bytes-back p (joined ps) b) k in
     let a = slice-more c m p (joined ps ++ last) (bytes-front p (joined ps) b) e (w .number) in
     let x : slices ours (sliceOf c m p .chain) (sliceMemory c m p) ps last ≡ ours .slice (r .chain) (r .memory) (joined ps ++ last) =
-        rw (w .chain, w .memory) j
+    rw (w .chain, w .memory) j
     in
     let y : ours .slice c m (p ++ (joined ps ++ last)) ≡ ours .slice (r .chain) (r .memory) (joined ps ++ last) =
-        pair (subst (λ (d : Chain). sliceOf c m (p ++ (joined ps ++ last)) ≡ sliceOf d (r .memory) (joined ps ++ last)) (w .chain)
-        (subst (λ (n : List ℕ). sliceOf c m (p ++ (joined ps ++ last)) ≡ sliceOf (sliceOf c m p .chain) n (joined ps ++ last)) (w .memory) (a .0)))
-        (subst (λ (d : Chain). sliceMemory c m (p ++ (joined ps ++ last)) ≡ sliceMemory d (r .memory) (joined ps ++ last)) (w .chain)
-        (subst (λ (n : List ℕ). sliceMemory c m (p ++ (joined ps ++ last)) ≡ sliceMemory (sliceOf c m p .chain) n (joined ps ++ last)) (w .memory) (a .1)))
+    pair (subst (λ (d : Chain). sliceOf c m (p ++ (joined ps ++ last)) ≡ sliceOf d (r .memory) (joined ps ++ last)) (w .chain)
+    (subst (λ (n : List ℕ). sliceOf c m (p ++ (joined ps ++ last)) ≡ sliceOf (sliceOf c m p .chain) n (joined ps ++ last)) (w .memory) (a .0)))
+    (subst (λ (d : Chain). sliceMemory c m (p ++ (joined ps ++ last)) ≡ sliceMemory d (r .memory) (joined ps ++ last)) (w .chain)
+    (subst (λ (n : List ℕ). sliceMemory c m (p ++ (joined ps ++ last)) ≡ sliceMemory (sliceOf c m p .chain) n (joined ps ++ last)) (w .memory) (a .1)))
     in
     x ∙ sym y ∙ ap (λ (s : List ℕ). ours .slice c m s) (sym (append-assoc p (joined ps) last))
   where
@@ -157,7 +157,7 @@ module _ (c : Chain) (m : List ℕ) (check mode : ℕ) (s : Section) (ss : List 
       let t : take n bs ≡ joined ps = ap (take n) (sym e) ∙ take-append-seam (joined ps) (b ∷ last) in
       let l : n < length bs = omega (arith, ap length e, length-append (joined ps) (b ∷ last)) in
       let open-before : runOf (run o m more) (joined ps) .number ≡ more =
-          ap (λ (l : List ℕ). runOf (run o m more) l .number) (sym t) ∙ accepted-open n bs o m accepted l
+      ap (λ (l : List ℕ). runOf (run o m more) l .number) (sym t) ∙ accepted-open n bs o m accepted l
       in
       let small = bytes-front (joined ps) (b ∷ last) (subst Bytes (sym e) (f .bytes)) in
       let j = slices-join ps o m (b ∷ last) sound (i .registers) small open-before ∙ ap (λ (l : List ℕ). ours .slice o m l) e in
@@ -167,7 +167,7 @@ module _ (c : Chain) (m : List ℕ) (check mode : ℕ) (s : Section) (ss : List 
       → Seen check c m (take k xs) more (slices ours o m ps last)
   cut-part k h ps last e =
       let open-all : runOf (run o m more) (joined ps ++ last) .number ≡ more =
-          ap (λ (l : List ℕ). runOf (run o m more) l .number) e ∙ accepted-open k bs o m accepted (omega (arith, bytes-long xs))
+      ap (λ (l : List ℕ). runOf (run o m more) l .number) e ∙ accepted-open k bs o m accepted (omega (arith, bytes-long xs))
       in
       let small = bytes-front (joined ps) last (subst Bytes (sym e) (bytes-take k bs (f .bytes))) in
       let j = slices-join ps o m last sound (i .registers) small (open-front (joined ps) last (run o m more) open-all) ∙ ap (λ (l : List ℕ). ours .slice o m l) e in

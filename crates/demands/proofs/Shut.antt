@@ -56,7 +56,7 @@ pub idle-out : Demand2a idle → ⊥
 unfolding baseOf
 idle-out d =
     let e : _≡_ {A = ℕ} 0 0x11 =
-        whole-seen idle d teaching cells0 writing 1 sectionA [] idle-teaching mode-one (fits-A writing) .cells 9 (omega arith) in
+    whole-seen idle d teaching cells0 writing 1 sectionA [] idle-teaching mode-one (fits-A writing) .cells 9 (omega arith) in
     omega arith
 
 -- ---- every count of bytes taken, or of mismatches, that differs from the true one on some fitting stream, whole or in part

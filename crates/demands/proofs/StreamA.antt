@@ -27,7 +27,6 @@ windowA = record { null = 0; start = 9; end = 11; bytes = 0x11 ∷ 0x22 ∷ 0x33
 abbrev pub sectionA : Section
 sectionA = record { control = 0; address0 = 0; address1 = 0; address2 = 0; windows = windowA ∷ [] }
 
-
 zeros-bytes : (n : ℕ) → Bytes (replicate n 0)
 zeros-bytes zero = tt
 zeros-bytes (suc n) = (lit< tt, zeros-bytes n)

@@ -1,3 +1,8 @@
+pub mod Formed
+pub mod Table
+pub mod ByteTable
+pub mod ListTable
+pub mod Demand1
 pub mod Grammar
 pub mod Loader
 pub mod Demand2

@@ -6,12 +6,13 @@ use lib.Dec.{eqb}
 use lib.ListN.{length, replicate}
 use lib.Seq.{sets}
 use Rattle.chain.specs.declared.Chain.{Chain}
-use Rattle.chain.specs.Paper.{at·data, writing, done, more}
+use Rattle.chain.specs.Paper.{at·address, at·data, writing, two-preambles, done, barred, more, B4}
 use Rattle.chain.specs.Rules.{pick}
 use Rattle.chain.specs.Kinds.{baseOf}
+use Rattle.chain.specs.Set.{with·place}
 use Rattle.chain.specs.State.{openNumber}
 use Rattle.machine.specs.Byte.{awaits}
-use Rattle.machine.specs.Run.{writes, Run, run, stepOf}
+use Rattle.machine.specs.Run.{writes, ended, Run, run, stepOf}
 use Rattle.machine.specs.Calls.{answered, fedOf}
 use Rattle.demands.specs.Loader.{Loader, AfterSlice}
 use Rattle.demands.specs.Ours.{ours}
@@ -70,3 +71,82 @@ eager =
       fed = ours .slice c m s .fed;
       memory = pick (eqb (openNumber c (length m)) done) (eagerRun (run c m more) s .memory) m;
     })
+
+-- ---- wrong readings of document 01
+
+-- B4 applied to the stream that sets it: the byte after such a control byte ends the run with 6
+abbrev pub selfBarring : Run → List ℕ → Run
+selfBarring r [] = r
+selfBarring r (b ∷ bs) =
+    selfBarring
+    (pick (eqb (r .number) more)
+    (pick (awaits (r .chain) at·address && B4 (r .chain .place .control)) (run (ended (r .chain)) (r .memory) barred)
+    (stepOf (r .chain) (r .memory) b))
+    r)
+    bs
+
+abbrev pub barring : Loader
+barring =
+    withSlice
+    (λ c m s. record { fed = fedOf (selfBarring (run c m more) s); memory = selfBarring (run c m more) s .memory })
+
+-- a check that writes: it answers as ours, and stores what a write would
+abbrev pub writing-chain : Chain → Chain
+writing-chain c =
+    with·place c
+    (record {
+      running = c .place .running;
+      mode = c .place .mode;
+      check = writing;
+      device = c .place .device;
+      awaited = c .place .awaited;
+      left = c .place .left;
+      control = c .place .control;
+      start = c .place .start;
+      end = c .place .end;
+      next = c .place .next;
+      taken = c .place .taken;
+      mismatches = c .place .mismatches;
+    })
+
+abbrev pub checkWrites : Loader
+checkWrites = withSlice (λ c m s. record { fed = ours .slice c m s .fed; memory = ours .slice (writing-chain c) m s .memory })
+
+-- closing one byte short
+abbrev pub shortClosing : Loader
+shortClosing =
+    record {
+      start = ours .start;
+      slice = ours .slice;
+      closing =
+          λ c m out.
+          let w = ours .closing c m out in
+          record { written = record { number = w .written .number; length = w .written .length - 1 }; out = w .out };
+      write = ours .write;
+      list = ours .list;
+      hunt = ours .hunt;
+    }
+
+-- offsets from the stream's first byte, which in mode 6 is not the preamble before the control byte
+abbrev pub oneMore : List ℕ → List ℕ
+oneMore [] = []
+oneMore (x ∷ xs) = (x + 1) ∷ oneMore xs
+
+abbrev pub offsetsFromFirst : Loader
+offsetsFromFirst =
+    record {
+      start = ours .start;
+      slice = ours .slice;
+      closing = ours .closing;
+      write = ours .write;
+      list =
+          λ kind mode s starts ends offsets.
+          let a = ours .list kind mode s starts ends offsets in
+          record {
+            listed = a .listed;
+            starts = a .starts;
+            ends = a .ends;
+            offsets = pick (eqb mode two-preambles) (oneMore (a .offsets)) (a .offsets);
+          };
+      hunt = ours .hunt;
+    }

@@ -15,4 +15,3 @@ pub mod Keeps
 pub mod Started
 pub mod Slices
 pub mod Append
-pub mod Cases

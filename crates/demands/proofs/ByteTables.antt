@@ -1,0 +1,102 @@
+-- The table of a byte's numbers. Assumes nothing.
+use Prim.Native.Nat.{ℕ, _/_, _%_}
+use mathlib.Core.Bool.{Bool, false, _&&_}
+use mathlib.Core.Logic.{_⊎_, inl, inr, ⊎-elim, _≢_}
+use mathlib.Core.Path.{_≡_, refl, sym, ap, _∙_}
+use mathlib.Core.List.{List, [], _∷_}
+use native.Mathlib.Omega.{arith}
+use borrow.Author.Tests.{eqb-true, eqb-false, eq-eqb, ne-eqb}
+use lib.Dec.{eqb}
+use lib.ListN.{length}
+use Rattle.chain.specs.declared.Chain.{Chain}
+use Rattle.chain.specs.Paper.{preamble, at·preamble, at·second, at·check, two-preambles, done, more}
+use Rattle.chain.specs.Rules.{pick, firstOf}
+use Rattle.chain.specs.State.{openRules, openNumber}
+use Rattle.chain.proofs.ByCases.{by-test}
+use Rattle.chain.proofs.Numbers.{open-gives, open-passes}
+use Rattle.machine.specs.declared.Fed.{Fed}
+use Rattle.machine.specs.Byte.{awaits, nextDevice, begins, registerBegun, byteRules, numberOf}
+use Rattle.machine.specs.Run.{run, runOf}
+use Rattle.machine.specs.Calls.{answered, fedOf, sliceOf}
+use Rattle.machine.proofs.Runs.{step-number}
+use Rattle.demands.specs.Formed.{Sets}
+use Rattle.demands.specs.Table.{Table}
+use Rattle.demands.specs.ByteTable.{Awaits, BeginsWith, byteTable, sliceNumber}
+use Rattle.demands.proofs.Table.{Tests, t-iff, table, reads}
+use Rattle.demands.proofs.CallTables.{state-reads}
+
+-- ---- B2 that would begin a device
+
+module _ (bit : ℕ) (c : Chain) (b : ℕ) where
+  abbrev Parts : Type 0
+  Parts =
+      ((b ≡ preamble)
+      × (((Awaits c at·preamble × (c .place .mode ≢ two-preambles)) ⊎ Awaits c at·second) ⊎ Awaits c at·check))
+      × Sets bit (registerBegun c)
+
+  to-begins : Parts → BeginsWith bit c b
+  to-begins h =
+      by-test (awaits c at·check)
+      (λ e. (nextDevice (c .place), (h .0 .0, inr (eqb-true (c .place .awaited) at·check e, refl)), rw e at (h .1)))
+      (λ e.
+      let f = eqb-false (c .place .awaited) at·check e in
+      (c .place .device, (h .0 .0, inl (⊎-elim (λ x. x) (λ y. absurd (f y)) (h .0 .1), refl)), rw e at (h .1)))
+
+  of-begins : BeginsWith bit c b → Parts
+  of-begins h =
+      ⊎-elim
+      (λ x.
+      let e : awaits c at·check ≡ false
+      = ne-eqb (c .place .awaited) at·check (λ f. ⊎-elim (λ z. let g = z .0 in omega arith) (λ g. omega arith) (x .0))
+      in
+      ((h .1 .0, inl (x .0)), rw e (rw (x .1) at (h .2))))
+      (λ y. ((h .1 .0, inr (y .0)), rw (eq-eqb (c .place .awaited) at·check (y .0)) (rw (y .1) at (h .2))))
+      (h .1 .1)
+
+  pub t-begins : Tests (begins c b && eqb (registerBegun c / bit % 2) 1) (BeginsWith bit c b)
+  t-begins =
+      let parts : Tests (begins c b && eqb (registerBegun c / bit % 2) 1) Parts = search reads depth 8 in
+      t-iff parts to-begins of-begins
+
+-- ---- the byte call
+
+-- where none of 1, 17 and 4 is given the run is fed, and else nothing is
+module _ (c : Chain) (m s : List ℕ) where
+  abbrev refusal : ℕ
+  refusal = openNumber c (length m)
+
+  pub slice-fed : openNumber c (length m) ≡ done → sliceOf c m s ≡ fedOf (runOf (run c m more) s)
+  unfolding sliceOf
+  slice-fed e = ap (λ (q : Bool). pick q (fedOf (runOf (run c m more) s)) (answered c refusal 0 0)) (eq-eqb refusal done e)
+
+  pub slice-unfed : openNumber c (length m) ≢ done → sliceOf c m s ≡ answered c (openNumber c (length m)) 0 0
+  unfolding sliceOf
+  slice-unfed h = ap (λ (q : Bool). pick q (fedOf (runOf (run c m more) s)) (answered c refusal 0 0)) (ne-eqb refusal done h)
+
+  pub slice-on : openNumber c (length m) ≡ done → sliceNumber c m s ≡ runOf (run c m more) s .number
+  unfolding fedOf
+  slice-on e = ap (λ (f : Fed). f .answer .number) (slice-fed e)
+
+  pub slice-off : openNumber c (length m) ≢ done → sliceNumber c m s ≡ openNumber c (length m)
+  slice-off h = ap (λ (f : Fed). f .answer .number) (slice-unfed h)
+
+pub run-one : (c : Chain) (m : List ℕ) (b : ℕ) → runOf (run c m more) (b ∷ []) .number ≡ numberOf c b
+unfolding runOf
+run-one c m b = step-number c m b
+
+byte-number : (c : Chain) (m : List ℕ) (b : ℕ) → sliceNumber c m (b ∷ []) ≡ firstOf (openRules c (length m) (byteRules c b)) more
+unfolding numberOf
+byte-number c m b =
+    by-test (eqb (openNumber c (length m)) done)
+    (λ e.
+    let z = eqb-true (openNumber c (length m)) done e in
+    slice-on c m (b ∷ []) z ∙ run-one c m b ∙ sym (open-passes c (length m) (byteRules c b) more z))
+    (λ e.
+    let z = eqb-false (openNumber c (length m)) done e in
+    slice-off c m (b ∷ []) z ∙ sym (open-gives c (length m) (byteRules c b) more z))
+
+pub ruleset byte-reads = (t-begins, state-reads)
+
+pub byte-table : (c : Chain) (m : List ℕ) (b : ℕ) → Table (sliceOf c m (b ∷ []) .answer .number) (byteTable c m b) more
+byte-table c m b =
+    rw (byte-number c m b) (table (openRules c (length m) (byteRules c b)) (byteTable c m b) more tt (search byte-reads depth 40))

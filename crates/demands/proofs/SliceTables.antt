@@ -1,0 +1,285 @@
+-- The table of a slice's numbers: n at byte k exactly when the k bytes before it gave 16 and n's condition holds there. Assumes nothing.
+use Prim.Native.Nat.{ℕ, zero, suc, _<_, _≤_}
+use mathlib.Core.Bool.{Bool, true, false, false≢true}
+use mathlib.Core.Logic.{_↔_, _⊎_, inl, inr, ⊎-elim, _≢_}
+use mathlib.Core.Path.{_≡_, refl, sym, ap, subst, _∙_}
+use mathlib.Core.List.{List, [], _∷_, _++_}
+use native.Mathlib.Omega.{arith}
+use borrow.Author.Tests.{eqb-true, eqb-false, eq-eqb, leb-true, leb-false}
+use lib.Dec.{eqb, leb}
+use lib.ListN.{length, getD, take, drop, take-append-drop}
+use lib.Seq.{take-suc, take-take, take-length}
+use Rattle.chain.specs.declared.Chain.{Chain}
+use Rattle.chain.specs.Paper.{closed, done, bad-chain, no-run, no-preamble, barred, no-check, bad-check-byte, ends-here, last-device, bad-start, bad-end, more, ill-formed}
+use Rattle.chain.specs.Rules.{Rule, _gives_, pick, firstOf}
+use Rattle.chain.specs.Set.{with·place, closedPlace}
+use Rattle.chain.specs.State.{badChain, illFormed, openRules, openNumber}
+use Rattle.chain.proofs.ByCases.{by-test}
+use Rattle.chain.proofs.Numbers.{open-gives, open-passes}
+use Rattle.machine.specs.declared.Fed.{Fed}
+use Rattle.machine.specs.Byte.{byteRules, numberOf}
+use Rattle.machine.specs.Run.{Run, run, runOf}
+use Rattle.machine.specs.Calls.{fedOf, sliceOf}
+use Rattle.machine.proofs.Feed.{run-append, run-over}
+use Rattle.machine.proofs.Runs.{step-number}
+use Rattle.demands.specs.Table.{Claim, NoneOf, Table, openTable}
+use Rattle.demands.specs.ByteTable.{Five, Six, Seven, Eight, Nine, Ten, Eleven, Twelve, Accepts, ownTable, sliceNumber, AtSome, sliceTable}
+use Rattle.demands.proofs.Table.{Tests, t-eq, Same, row, end, like, same, same-alike, table}
+use Rattle.demands.proofs.Formed.{t-bad-chain, t-ill-formed}
+use Rattle.demands.proofs.ByteTables.{slice-fed, slice-on, slice-off, byte-reads}
+
+-- ---- a byte's own numbers
+
+own-same : (c : Chain) (b : ℕ) → Same (byteRules c b) (ownTable c b)
+own-same c b = search byte-reads depth 40
+
+pub own-table : (c : Chain) (b : ℕ) → Table (numberOf c b) (ownTable c b) more
+unfolding numberOf
+own-table c b = table (byteRules c b) (ownTable c b) more tt (own-same c b)
+
+-- a condition that a byte's number ends the run by
+abbrev Ends : (Chain → ℕ → Type 0) → Type 0
+Ends P = (c : Chain) (b : ℕ) → P c b → numberOf c b ≢ more
+
+-- ---- a run, part by part
+
+front-open : (xs ys : List ℕ) (r : Run) → runOf r (xs ++ ys) .number ≡ more → runOf r xs .number ≡ more
+front-open xs ys r h =
+    by-test (eqb (runOf r xs .number) more) (λ e. eqb-true (runOf r xs .number) more e)
+    (λ e.
+    let f = eqb-false (runOf r xs .number) more e in
+    absurd (f (sym (ap (λ (x : Run). x .number) (run-append xs ys r ∙ run-over ys (runOf r xs) f)) ∙ h)))
+
+one-number : (b : ℕ) (r : Run) → r .number ≡ more → runOf r (b ∷ []) .number ≡ numberOf (r .chain) b
+unfolding runOf
+one-number b r e = rw (eq-eqb (r .number) more e) (step-number (r .chain) (r .memory) b)
+
+next-number : (xs : List ℕ) (b : ℕ) (r : Run) → runOf r xs .number ≡ more → runOf r (xs ++ (b ∷ [])) .number ≡ numberOf (runOf r xs .chain) b
+next-number xs b r h = ap (λ (x : Run). x .number) (run-append xs (b ∷ []) r) ∙ one-number b (runOf r xs) h
+
+-- the first of n turns after which something is not 16
+turn : (f : ℕ → ℕ) → f 0 ≡ more → (n : ℕ) → (f n ≡ more) ⊎ ((k : ℕ) × (k < n) × (f k ≡ more) × (f (suc k) ≢ more))
+turn f z zero = inl z
+turn f z (suc n) =
+    ⊎-elim
+    (λ h. by-test (eqb (f (suc n)) more) (λ e. inl (eqb-true (f (suc n)) more e)) (λ e. inr (n, omega arith, h, eqb-false (f (suc n)) more e)))
+    (λ h. inr (h .0, omega (arith, h .1), h .2, h .3))
+    (turn f z n)
+
+-- ---- the slices of a state that takes a byte
+
+module _ (c : Chain) (m s : List ℕ) (z : openNumber c (length m) ≡ done) where
+  abbrev after : ℕ → Run
+  after k = runOf (run c m more) (take k s)
+
+  number-at : (k : ℕ) → sliceNumber c m (take k s) ≡ after k .number
+  number-at k = slice-on c m (take k s) z
+
+  chain-at : (k : ℕ) → sliceNumber c m (take k s) ≡ more → sliceOf c m (take k s) .chain ≡ after k .chain
+  unfolding fedOf
+  chain-at k h =
+      ap (λ (f : Fed). f .chain) (slice-fed c m (take k s) z)
+      ∙ ap (λ (q : Bool). pick q (after k .chain) (with·place (after k .chain) closedPlace)) (eq-eqb (after k .number) more (sym (number-at k) ∙ h))
+
+  -- what gave 16 gave 16 before
+  earlier : (j k : ℕ) → j ≤ k → sliceNumber c m (take k s) ≡ more → sliceNumber c m (take j s) ≡ more
+  earlier j k l h = number-at j ∙ front-open (take j s) (drop j (take k s)) (run c m more) (ap (λ (x : List ℕ). runOf (run c m more) x .number) parts ∙ sym (number-at k) ∙ h)
+    where
+      parts : take j s ++ drop j (take k s) ≡ take k s
+      parts = ap (λ (x : List ℕ). x ++ drop j (take k s)) (sym (take-take j k s l)) ∙ take-append-drop j (take k s)
+
+  -- byte k gives its own number
+  pub at-byte : (k : ℕ) → k < length s → sliceNumber c m (take k s) ≡ more
+      → sliceNumber c m (take (suc k) s) ≡ numberOf (sliceOf c m (take k s) .chain) (getD s k 0)
+  at-byte k l h =
+      number-at (suc k)
+      ∙ ap (λ (x : List ℕ). runOf (run c m more) x .number) (take-suc s k 0 l)
+      ∙ next-number (take k s) (getD s k 0) (run c m more) (sym (number-at k) ∙ h)
+      ∙ ap (λ (x : Chain). numberOf x (getD s k 0)) (sym (chain-at k h))
+
+  -- a slice is over at the first byte that gives another number than 16
+  pub over-at : (k : ℕ) → sliceNumber c m (take (suc k) s) ≢ more → sliceOf c m s ≡ sliceOf c m (take (suc k) s)
+  over-at k h =
+      slice-fed c m s z
+      ∙ ap (λ (x : List ℕ). fedOf (runOf (run c m more) x)) (sym (take-append-drop (suc k) s))
+      ∙ ap fedOf (run-append (take (suc k) s) (drop (suc k) s) (run c m more) ∙ run-over (drop (suc k) s) (after (suc k)) (λ e. h (number-at (suc k) ∙ e)))
+      ∙ sym (slice-fed c m (take (suc k) s) z)
+
+  module _ (P : Chain → ℕ → Type 0) (ends : Ends P) where
+    holds-ends : (a : AtSome c m s P) → sliceNumber c m (take (suc (a .k)) s) ≢ more
+    holds-ends a e = ends _ _ (a .holds) (sym (at-byte (a .k) (a .there) (a .before)) ∙ e)
+
+    -- where the slice ends at byte k no other will do
+    at-end : (k : ℕ) → k < length s → sliceNumber c m (take k s) ≡ more → sliceNumber c m (take (suc k) s) ≢ more
+        → P (sliceOf c m (take k s) .chain) (getD s k 0) ↔ AtSome c m s P
+    at-end k l h n = (
+      λ p. record { k = k; there = l; before = h; holds = p },
+      λ a. subst (λ (j : ℕ). P (sliceOf c m (take j s) .chain) (getD s j 0)) (only a) (a .holds),
+    )
+      where
+        only : (a : AtSome c m s P) → a .k ≡ k
+        only a =
+            by-test (leb (suc (a .k)) k)
+            (λ e. absurd (holds-ends a (earlier (suc (a .k)) k (leb-true (suc (a .k)) k e) h)))
+            (λ e.
+            by-test (leb (suc k) (a .k))
+            (λ f. absurd (n (earlier (suc k) (a .k) (leb-true (suc k) (a .k) f) (a .before))))
+            (λ f. omega (arith, leb-false (suc (a .k)) k e, leb-false (suc k) (a .k) f)))
+
+    -- where it gives 16 there is none
+    never : sliceNumber c m s ≡ more → AtSome c m s P → ⊥
+    never h a = holds-ends a (earlier (suc (a .k)) (length s) (a .there) (ap (sliceNumber c m) (take-length s) ∙ h))
+
+-- ---- the table
+
+own-none : (c : Chain) (b : ℕ) → numberOf c b ≡ more → NoneOf (ownTable c b)
+own-none c b e = own-table c b .1 .1 .1 .1 .1 .1 .1 .1 .1 .0 e
+
+five-ends : Ends Five
+five-ends c b p e = own-none c b e .0 p
+
+eight-ends : Ends Eight
+eight-ends c b p e = own-none c b e .1 .0 p
+
+nine-ends : Ends Nine
+nine-ends c b p e = own-none c b e .1 .1 .0 p
+
+ten-ends : Ends Ten
+ten-ends c b p e = own-none c b e .1 .1 .1 .0 p
+
+six-ends : Ends Six
+six-ends c b p e = own-none c b e .1 .1 .1 .1 .0 p
+
+seven-ends : Ends Seven
+seven-ends c b p e = own-none c b e .1 .1 .1 .1 .1 .0 p
+
+eleven-ends : Ends Eleven
+eleven-ends c b p e = own-none c b e .1 .1 .1 .1 .1 .1 .0 p
+
+twelve-ends : Ends Twelve
+twelve-ends c b p e = own-none c b e .1 .1 .1 .1 .1 .1 .1 .0 p
+
+accepts-ends : Ends Accepts
+accepts-ends c b p e = own-none c b e .1 .1 .1 .1 .1 .1 .1 .1 .0 p
+
+-- the numbers of a run, none of them given
+abbrev noRules : List Rule
+noRules =
+    (false gives no-preamble)
+    ∷ (false gives bad-check-byte)
+    ∷ (false gives ends-here)
+    ∷ (false gives last-device)
+    ∷ (false gives barred)
+    ∷ (false gives no-check)
+    ∷ (false gives bad-start)
+    ∷ (false gives bad-end)
+    ∷ (false gives done)
+    ∷ []
+
+t-false : {P : Type 0} → (P → ⊥) → Tests false P
+t-false h = record { says = λ e. absurd (false≢true e); said = λ p. absurd (h p) }
+
+own-number : (c : Chain) (b : ℕ) → numberOf c b ≡ firstOf (byteRules c b) more
+unfolding numberOf
+own-number c b = refl
+
+run-none : (c : Chain) (m : List ℕ) → runOf (run c m more) [] .number ≡ more
+unfolding runOf
+run-none c m = refl
+
+-- 1, 17 and 4 are not 16
+open-not-more : (c : Chain) (len : ℕ) → openNumber c len ≢ more
+unfolding openNumber
+open-not-more c len = cases (badChain (c .count) (c .kinds) len) (illFormed c) (eqb (c .place .running) closed)
+  where
+    cases : (a b o : Bool) → firstOf ((a gives bad-chain) ∷ (b gives ill-formed) ∷ (o gives no-run) ∷ []) done ≢ more
+    cases true b o e = omega arith
+    cases false true o e = omega arith
+    cases false false true e = omega arith
+    cases false false false e = omega arith
+
+module _ (c : Chain) (m s : List ℕ) where
+  -- 1, 17 and 4 before the rules of a run
+  before-run : {rs : List Rule} {cs : List Claim} → Same rs cs → Same (openRules c (length m) rs) (openTable c m cs)
+  before-run t =
+      row (t-bad-chain (c .count) (c .kinds) (length m)) (row (t-ill-formed c) (row (t-eq (c .place .running) closed) t))
+
+  none-table : ((P : Chain → ℕ → Type 0) → Ends P → AtSome c m s P → ⊥) → sliceNumber c m s ≡ firstOf (openRules c (length m) noRules) more
+      → Table (sliceNumber c m s) (sliceTable c m s) more
+  none-table h e =
+      rw e
+      (table (openRules c (length m) noRules) (sliceTable c m s) more tt
+      (before-run
+      (row (t-false (h Five five-ends))
+      (row (t-false (h Eight eight-ends))
+      (row (t-false (h Nine nine-ends))
+      (row (t-false (h Ten ten-ends))
+      (row (t-false (h Six six-ends))
+      (row (t-false (h Seven seven-ends))
+      (row (t-false (h Eleven eleven-ends))
+      (row (t-false (h Twelve twelve-ends))
+      (row (t-false (h Accepts accepts-ends))
+      end)))))))))))
+
+  end-table : (z : openNumber c (length m) ≡ done) (k : ℕ) → k < length s → sliceNumber c m (take k s) ≡ more → sliceNumber c m (take (suc k) s) ≢ more
+      → Table (sliceNumber c m s) (sliceTable c m s) more
+  end-table z k l h n =
+      let d = sliceOf c m (take k s) .chain in
+      let b = getD s k 0 in
+      rw number
+      (table (openRules c (length m) (byteRules d b)) (sliceTable c m s) more tt
+      (before-run
+      (same-alike (own-same d b)
+      (like (at-end c m s z Five five-ends k l h n)
+      (like (at-end c m s z Eight eight-ends k l h n)
+      (like (at-end c m s z Nine nine-ends k l h n)
+      (like (at-end c m s z Ten ten-ends k l h n)
+      (like (at-end c m s z Six six-ends k l h n)
+      (like (at-end c m s z Seven seven-ends k l h n)
+      (like (at-end c m s z Eleven eleven-ends k l h n)
+      (like (at-end c m s z Twelve twelve-ends k l h n)
+      (like (at-end c m s z Accepts accepts-ends k l h n)
+      same))))))))))))
+    where
+      number : sliceNumber c m s ≡ firstOf (openRules c (length m) (byteRules (sliceOf c m (take k s) .chain) (getD s k 0))) more
+      number =
+          ap (λ (f : Fed). f .answer .number) (over-at c m s z k n)
+          ∙ at-byte c m s z k l h
+          ∙ own-number (sliceOf c m (take k s) .chain) (getD s k 0)
+          ∙ sym (open-passes c (length m) (byteRules (sliceOf c m (take k s) .chain) (getD s k 0)) more z)
+
+  pub slice-table : Table (sliceOf c m s .answer .number) (sliceTable c m s) more
+  slice-table =
+      by-test (eqb (openNumber c (length m)) done)
+      (λ e.
+      let z = eqb-true (openNumber c (length m)) done e in
+      ⊎-elim
+      (λ h.
+      let g : sliceNumber c m s ≡ more = ap (sliceNumber c m) (sym (take-length s)) ∙ h in
+      none-table (λ P ends. never c m s z P ends g) (g ∙ sym (open-passes c (length m) noRules more z)))
+      (λ x. end-table z (x .0) (x .1) (x .2) (x .3))
+      (turn (λ (k : ℕ). sliceNumber c m (take k s)) (nothing z) (length s)))
+      (λ e.
+      let z = eqb-false (openNumber c (length m)) done e in
+      none-table (λ P ends a. open-not-more c (length m) (sym (slice-off c m (take (a .k) s) z) ∙ a .before))
+      (slice-off c m s z ∙ sym (open-gives c (length m) noRules more z)))
+    where
+      nothing : openNumber c (length m) ≡ done → sliceNumber c m [] ≡ more
+      nothing z = slice-on c m [] z ∙ run-none c m
+
+-- ---- byte by byte
+
+pub open-of : (c : Chain) (m xs : List ℕ) → sliceNumber c m xs ≡ more → openNumber c (length m) ≡ done
+open-of c m xs h =
+    by-test (eqb (openNumber c (length m)) done) (λ e. eqb-true (openNumber c (length m)) done e)
+    (λ e. absurd (open-not-more c (length m) (sym (slice-off c m xs (eqb-false (openNumber c (length m)) done e)) ∙ h)))
+
+module _ (c : Chain) (m s : List ℕ) (k : ℕ) (l : k < length s) (h : sliceNumber c m (take k s) ≡ more) where
+  -- where k bytes gave 16, byte k has the table of its own numbers
+  pub next-exact : Table (sliceNumber c m (take (suc k) s)) (ownTable (sliceOf c m (take k s) .chain) (getD s k 0)) more
+  next-exact =
+      rw (at-byte c m s (open-of c m (take k s) h) k l h) (own-table (sliceOf c m (take k s) .chain) (getD s k 0))
+
+  -- and a number other than 16 is the slice's, whatever follows
+  pub ends-at : sliceNumber c m (take (suc k) s) ≢ more → sliceNumber c m s ≡ sliceNumber c m (take (suc k) s)
+  ends-at n = ap (λ (f : Fed). f .answer .number) (over-at c m s (open-of c m (take k s) h) k n)

@@ -1,0 +1,99 @@
+-- The first demand in one statement: each call gives each number of document 01 exactly under its condition there, and what a refusal leaves. Assumes nothing.
+use Prim.Native.Nat.{ℕ, suc, _+_, _%_, _^_, _<_}
+use mathlib.Core.Logic.{_≢_}
+use mathlib.Core.Path.{_≡_}
+use mathlib.Core.List.{List, [], _∷_}
+use lib.ListN.{length, take}
+use Rattle.chain.specs.declared.Chain.{Chain}
+use Rattle.chain.specs.Paper.{done, more}
+use Rattle.chain.specs.Set.{with·place, closedPlace}
+use Rattle.chain.specs.Calls.{noChain, newOf, resetOf, resetMemory}
+use Rattle.machine.specs.Calls.{startOf, sliceOf, sliceMemory}
+use Rattle.saved.specs.Calls.{saveOf, saveOutput, pickUpOf}
+use Rattle.closing.specs.Calls.{closingOf, closingOutput}
+use Rattle.hunt.specs.Hunt.{huntOf, huntOut}
+use Rattle.writer.specs.Write.{writeOf, writeOutput}
+use Rattle.lister.specs.declared.Listed.{Listed}
+use Rattle.lister.specs.Listing.{preambleAt, listedOf, listed, Lists}
+use Rattle.demands.specs.Grammar.{Bytes}
+use Rattle.demands.specs.Table.{Table, chainTable, startTable, closingTable, saveTable, PickUpNumbers, huntTable, writeTable}
+use Rattle.demands.specs.ByteTable.{byteTable, sliceNumber, sliceTable, Running, ByteNumbers}
+use Rattle.demands.specs.ListTable.{listTable}
+
+-- each number exactly when. The lister's stream is of bytes, as its type in the code says
+pub record Numbers : Type 0 where
+  pub new : (count : ℕ) (kinds m : List ℕ) → Table (newOf count kinds (length m) .number) (chainTable count kinds m) done
+  pub reset : (c : Chain) (m : List ℕ) → Table (resetOf c (length m) .number) (chainTable (c .count) (c .kinds) m) done
+  pub start : (c : Chain) (m : List ℕ) (mode check : ℕ) → Table (startOf c (length m) mode check .number) (startTable c m mode) done
+  pub byte : (c : Chain) (m : List ℕ) (b : ℕ) → Table (sliceOf c m (b ∷ []) .answer .number) (byteTable c m b) more
+  pub byte-own : (c : Chain) (m : List ℕ) (b : ℕ) → Running c m → ByteNumbers c m b
+  pub slice : (c : Chain) (m s : List ℕ) → Table (sliceOf c m s .answer .number) (sliceTable c m s) more
+  pub closing : (c : Chain) (m out : List ℕ) → Table (closingOf c m (length out) .number) (closingTable c m out) done
+  pub save : (c : Chain) (m out : List ℕ) → Table (saveOf c (length m) (length out) .number) (saveTable c m out) done
+  pub pick-up : (c : Chain) (m s : List ℕ) → PickUpNumbers c m s
+  pub hunt : (s out : List ℕ) → Table (huntOf s (length out) .number) (huntTable s out) done
+  pub write : (kind mode control : ℕ) (address starts ends bytes out : List ℕ)
+      → Table (writeOf kind mode control address starts ends bytes (length out) .number) (writeTable kind mode control address starts ends bytes out) done
+  pub list : (kind mode : ℕ) (s : List ℕ) → Bytes s → (starts ends offsets : List ℕ)
+      → Table (listedOf s (preambleAt mode) (listed kind mode s starts ends offsets) .number) (listTable kind mode s starts ends offsets) done
+
+-- what a slice that 1, 17 or 4 refuses leaves
+pub record AsLent (c : Chain) (m s : List ℕ) : Type 0 where
+  pub chain : sliceOf c m s .chain ≡ c
+  pub memory : sliceMemory c m s ≡ m
+  pub taken : sliceOf c m s .answer .taken ≡ 0
+  pub mismatches : sliceOf c m s .answer .mismatches ≡ 0
+
+-- a slice that ends at its byte k: that byte counts as taken, closes the run, and changes no cell, no register and no count of
+-- mismatches; what earlier bytes stored stays
+pub record EndedAt (c : Chain) (m s : List ℕ) (k : ℕ) : Type 0 where
+  pub chain : sliceOf c m s .chain ≡ with·place (sliceOf c m (take k s) .chain) closedPlace
+  pub memory : sliceMemory c m s ≡ sliceMemory c m (take k s)
+  pub taken : sliceOf c m s .answer .taken ≡ (sliceOf c m (take k s) .answer .taken + 1) % 2 ^ 32
+  pub mismatches : sliceOf c m s .answer .mismatches ≡ sliceOf c m (take k s) .answer .mismatches % 2 ^ 32
+
+-- the same of a byte call
+pub record ByteEnded (c : Chain) (m : List ℕ) (b : ℕ) : Type 0 where
+  pub chain : sliceOf c m (b ∷ []) .chain ≡ with·place c closedPlace
+  pub memory : sliceMemory c m (b ∷ []) ≡ m
+  pub taken : sliceOf c m (b ∷ []) .answer .taken ≡ (c .place .taken + 1) % 2 ^ 32
+  pub mismatches : sliceOf c m (b ∷ []) .answer .mismatches ≡ c .place .mismatches % 2 ^ 32
+
+-- a refused listing: all but the number and the bytes taken is 0, and the tables are as lent
+pub record ListRefused (starts ends offsets : List ℕ) (r : Listed) (starts′ ends′ offsets′ : List ℕ) : Type 0 where
+  pub windows : r .windows ≡ 0
+  pub control : r .control ≡ 0
+  pub address : r .address ≡ 0 ∷ 0 ∷ 0 ∷ []
+  pub starts-kept : starts′ ≡ starts
+  pub ends-kept : ends′ ≡ ends
+  pub offsets-kept : offsets′ ≡ offsets
+
+pub record Refusals : Type 0 where
+  -- a refused new state is all zero
+  pub new : (count : ℕ) (kinds m : List ℕ) → newOf count kinds (length m) .number ≢ done → newOf count kinds (length m) .chain ≡ noChain
+  pub reset : (c : Chain) (m : List ℕ) → resetOf c (length m) .number ≢ done → (resetOf c (length m) .chain ≡ c) × (resetMemory c m ≡ m)
+  pub start : (c : Chain) (m : List ℕ) (mode check : ℕ) → startOf c (length m) mode check .number ≢ done
+      → startOf c (length m) mode check .chain ≡ c
+  pub byte : (c : Chain) (m : List ℕ) (b : ℕ) → Running c m → sliceNumber c m (b ∷ []) ≢ more → ByteEnded c m b
+  pub slice : (c : Chain) (m s : List ℕ) → (Running c m → ⊥) → AsLent c m s
+  pub slice-ended : (c : Chain) (m s : List ℕ) (k : ℕ) → k < length s → sliceNumber c m (take k s) ≡ more
+      → sliceNumber c m (take (suc k) s) ≢ more → EndedAt c m s k
+  -- 16 leaves the run open
+  pub slice-more : (c : Chain) (m s : List ℕ) → sliceNumber c m s ≡ more → sliceOf c m s .chain .place .running ≡ c .place .running
+  pub closing : (c : Chain) (m out : List ℕ) → closingOf c m (length out) .number ≢ done
+      → (closingOf c m (length out) .length ≡ 0) × (closingOutput c m out ≡ out)
+  pub save : (c : Chain) (m out : List ℕ) → saveOf c (length m) (length out) .number ≢ done
+      → (saveOf c (length m) (length out) .length ≡ 0) × (saveOutput c (length m) out ≡ out)
+  pub pick-up : (c : Chain) (m s : List ℕ) → pickUpOf c (length m) s .number ≢ done → pickUpOf c (length m) s .chain ≡ c
+  pub hunt : (s out : List ℕ) → huntOf s (length out) .number ≢ done → (huntOf s (length out) .length ≡ 0) × (huntOut s out ≡ out)
+  pub write : (kind mode control : ℕ) (address starts ends bytes out : List ℕ)
+      → writeOf kind mode control address starts ends bytes (length out) .number ≢ done
+      → (writeOf kind mode control address starts ends bytes (length out) .length ≡ 0)
+      × (writeOutput kind mode control address starts ends bytes out ≡ out)
+  pub list : (kind mode : ℕ) (s starts ends offsets : List ℕ) (r : Listed) (starts′ ends′ offsets′ : List ℕ)
+      → Lists kind mode s starts ends offsets r starts′ ends′ offsets′ → r .number ≢ done
+      → ListRefused starts ends offsets r starts′ ends′ offsets′
+
+pub record Demand1 : Type 0 where
+  pub numbers : Numbers
+  pub refusals : Refusals

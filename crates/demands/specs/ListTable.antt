@@ -1,0 +1,43 @@
+-- The lister's numbers: kind (1), mode, the stream's own number, then 15. Assumes nothing.
+use Prim.Native.Nat.{ℕ, _<_}
+use mathlib.Core.Logic.{_⊎_}
+use mathlib.Core.Path.{_≡_}
+use mathlib.Core.List.{List, [], _∷_}
+use lib.ListN.{length, replicate}
+use Rattle.chain.specs.declared.Chain.{Chain}
+use Rattle.chain.specs.Paper.{writing, bad-chain, bad-mode, no-preamble, barred, no-check, bad-check-byte, ends-here, last-device, bad-start, bad-end, too-short, more}
+use Rattle.chain.specs.Kinds.{sizeOf}
+use Rattle.chain.specs.Calls.{newOf}
+use Rattle.machine.specs.Calls.{startOf}
+use Rattle.lister.specs.Listing.{preambleAt, countAt}
+use Rattle.demands.specs.Formed.{Known}
+use Rattle.demands.specs.Table.{Claim, _when_, NoMode}
+use Rattle.demands.specs.ByteTable.{sliceNumber}
+
+-- one freshly reset device, a write started on it
+abbrev pub freshRun : ℕ → ℕ → Chain
+freshRun kind mode = startOf (newOf 1 (kind ∷ replicate 7 0) (sizeOf kind) .chain) (sizeOf kind) mode writing .chain
+
+-- the stream's own number: what the machine gives for it
+abbrev pub ownNumber : ℕ → ℕ → List ℕ → ℕ
+ownNumber kind mode s = sliceNumber (freshRun kind mode) (replicate (sizeOf kind) 0) s
+
+-- a table shorter than the count of windows
+abbrev pub Shorter : ℕ → List ℕ → List ℕ → List ℕ → Type 0
+Shorter n starts ends offsets = ((length starts < n) ⊎ (length ends < n)) ⊎ (length offsets < n)
+
+abbrev pub listTable : ℕ → ℕ → List ℕ → List ℕ → List ℕ → List ℕ → List Claim
+listTable kind mode s starts ends offsets =
+    (bad-chain when (Known kind → ⊥))
+    ∷ (bad-mode when NoMode mode)
+    ∷ (no-preamble when ownNumber kind mode s ≡ no-preamble)
+    ∷ (barred when ownNumber kind mode s ≡ barred)
+    ∷ (no-check when ownNumber kind mode s ≡ no-check)
+    ∷ (bad-check-byte when ownNumber kind mode s ≡ bad-check-byte)
+    ∷ (ends-here when ownNumber kind mode s ≡ ends-here)
+    ∷ (last-device when ownNumber kind mode s ≡ last-device)
+    ∷ (bad-start when ownNumber kind mode s ≡ bad-start)
+    ∷ (bad-end when ownNumber kind mode s ≡ bad-end)
+    ∷ (more when ownNumber kind mode s ≡ more)
+    ∷ (too-short when Shorter (countAt s (preambleAt mode)) starts ends offsets)
+    ∷ []
