@@ -5,7 +5,7 @@ use mathlib.Core.Path.{_≡_, refl}
 use mathlib.Core.List.{List, [], _∷_}
 use native.Mathlib.Omega.{arith}
 use lib.Dec.{lit<}
-use lib.ListN.{length}
+use lib.ListN.{length, take}
 use Rattle.chain.specs.Paper.{done, writing}
 use Rattle.chain.specs.Kinds.{sizeOf, baseOf, knownOf}
 use Rattle.chain.specs.State.{badChain, unusedZero, wellFormed, illFormed, stateNumber, openNumber}
@@ -59,5 +59,5 @@ pub eager-out : Demand3 eager → ⊥
 unfolding reading sizeOf baseOf knownOf badChain unusedZero wellFormed illFormed stateNumber openNumber numberOf passedOf advanceOf addressOf memoryOf registersOf missedOf stepOf runOf startNumber startOf fedOf sliceOf sliceMemory
 eager-out d =
     let h = d teaching cells0 1 streamB idle-teaching mode-one small eager-whole in
-    let e : _≡_ {A = ℕ} 0x11 0 = h .stops reading refl 12 (omega arith) .cells 10 (omega arith) in
+    let e : _≡_ {A = ℕ} 0x11 0 = h .stops reading refl 12 (omega arith) [] (take 12 streamB) refl .cells 10 (omega arith) in
     omega arith

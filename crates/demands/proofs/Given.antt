@@ -50,7 +50,7 @@ pub record Shuts (s : Chain) (m cs : List ℕ) : Type 0 where
 
 pub record Given (closing : Closing) : Type 0 where
   -- an output of size + 3 bytes has room for the closing bytes
-  pub room : (s : Chain) (m out : List ℕ) → Open s m → length out ≡ sizeHere s + 3 → closing s m out .written .number ≡ done
+  pub room : (s : Chain) (m out : List ℕ) → Open s m → sizeHere s + 3 ≤ length out → closing s m out .written .number ≡ done
   -- and where they are written they close the run
   pub shuts : (s : Chain) (m out : List ℕ) → Open s m → closing s m out .written .number ≡ done → Shuts s m (offered (closing s m out))
   pub parse : (c : Chain) (mode check : ℕ) (bs : List ℕ) → 0 < c .count → c .count ≤ most-devices → Bytes bs

@@ -40,7 +40,7 @@ pub mod Unchanged
 pub mod WrittenLoads
 pub mod Given
 pub mod Third
-pub mod Demands
+pub mod ThirdOurs
 pub mod StreamA
 pub mod Shut
 pub mod Eager

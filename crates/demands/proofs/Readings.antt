@@ -80,7 +80,7 @@ pub short-closing-out : Demand3 shortClosing → ⊥
 unfolding reading sizeOf baseOf knownOf badChain unusedZero wellFormed illFormed stateNumber openNumber numberOf passedOf advanceOf addressOf memoryOf registersOf missedOf stepOf runOf startNumber startOf fedOf sliceOf sliceMemory closingBytes writtenNumber closingOf closingOutput
 short-closing-out d =
     let h = d teaching cells0 1 streamA idle-teaching mode-one small whole in
-    h .stops reading refl 0 (omega arith) .closes (replicate 9 0) refl .ends refl
+    h .stops reading refl 0 (omega arith) [] [] refl .closes (replicate 9 0) refl .ends refl
 
 -- ---- offsets from the stream's first byte in mode 6
 
@@ -92,9 +92,9 @@ first-offset (w ∷ ws) s e = let z : _≡_ {A = ℕ} 11 12 = ap (λ (l : List �
 pub offsets-out : Demand2b offsetsFromFirst → ⊥
 unfolding sizeOf leadIn windowsBytes headBytes streamOf windowsNumber sumOf writeNumber-of writeNumber writeOf writeOutput preambleAt headStop checkStop streamStop listStop listedOf listingOf windowStop readWindowOf windowsStop windowsOf
 offsets-out d =
-    let w = d 0 6 0 0 0 0 (9 ∷ []) (11 ∷ []) (0x11 ∷ 0x22 ∷ 0x33 ∷ []) (replicate 20 0) teaching (record { count = refl; first = refl })
+    let w = d 0 6 0 0 0 0 (9 ∷ []) (11 ∷ []) (0x11 ∷ 0x22 ∷ 0x33 ∷ []) (replicate 20 0) teaching
     (lit< tt, (lit< tt, (lit< tt, (lit< tt, (lit< tt, (lit< tt, (lit< tt, tt))))))) refl
     in
     let table : List ℕ = replicate 255 0 in
     let room : length (w .windows) ≤ length table = w .fits .few in
-    first-offset (w .windows) (w .starts-are) (sym (w .lists table table table room room room .offsets))
+    first-offset (w .windows) (w .starts-are) (sym (w .lists table table table (record { starts = room; ends = room; offsets = room }) .offsets))

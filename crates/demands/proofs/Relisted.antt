@@ -7,12 +7,11 @@ use native.Mathlib.Omega.{arith}
 use lib.ListN.{length, take, drop, take-append-drop}
 use lib.Seq.{length-take-le}
 use Rattle.chain.specs.declared.Chain.{Chain}
-use Rattle.chain.specs.Paper.{no-windows}
 use Rattle.chain.specs.Kinds.{sizeOf}
 use Rattle.demands.specs.Grammar.{sizeAt, Section, streamSent, bytesOf, SectionFits, SectionsFit}
 use Rattle.demands.specs.Loader.{AfterWrite, AfterList, Mode}
 use Rattle.demands.specs.Demand3.{Reading, offered}
-use Rattle.demands.specs.Files.{starts, ends, cells, Lists, One, rewritten, Again}
+use Rattle.demands.specs.Files.{Room, starts, ends, cells, Lists, One, rewritten, Again}
 use Rattle.demands.specs.Ours.{ours}
 use Rattle.demands.proofs.Written.{addressOf, wrote, wrote-number, wrote-bytes}
 use Rattle.demands.proofs.Listed.{listed}
@@ -35,8 +34,7 @@ again-is kind mode bs t x a out l =
     ap (λ (d : List ℕ). ours .write kind mode (a .listed .control) (a .listed .address) (take (a .listed .windows) (a .starts)) (take (a .listed .windows) (a .ends)) d out) (l .cells)
     ∙ rw (l .control, l .address, l .starts, l .ends)
 
-module _ (c : Chain) (kind mode : ℕ) (bs ts te to : List ℕ) (t : ℕ) (one : One kind c) (o : Mode mode) (known : sizeOf kind ≡ 0 → ⊥) (inside : t ≤ length bs)
-    (hs : 255 ≤ length ts) (he : 255 ≤ length te) (ho : 255 ≤ length to) where
+module _ (c : Chain) (kind mode : ℕ) (bs ts te to : List ℕ) (t : ℕ) (one : One kind c) (o : Mode mode) (known : sizeOf kind ≡ 0 → ⊥) (inside : t ≤ length bs) where
   module _ (x : Reading c mode (take t bs)) where
     fits : SectionFits (sizeOf kind) (x .first)
     fits = subst (λ (k : ℕ). SectionFits (sizeOf k) (x .first)) (one .first) (first-fits c (x .first) (x .others) (x .fits))
@@ -44,25 +42,25 @@ module _ (c : Chain) (kind mode : ℕ) (bs ts te to : List ℕ) (t : ℕ) (one :
     bytes-are : bytesOf (streamSent c mode (x .first) []) ≡ take t bs
     bytes-are = ap (λ (ss : List Section). bytesOf (streamSent c mode (x .first) ss)) (sym (alone c (x .first) (x .others) (one .count) (x .fits))) ∙ x .bytes
 
-    lists : Lists mode bs t (x .first) (ours .list kind mode bs ts te to)
-    lists =
-        let few : length (x .first .windows) ≤ no-windows = fits .few in
+    lists : Room (length (x .first .windows)) ts te to → Lists mode bs t (x .first) (ours .list kind mode bs ts te to)
+    lists room =
         let a : bytesOf (streamSent c mode (x .first) []) ++ drop t bs ≡ bs = ap (λ (l : List ℕ). l ++ drop t bs) bytes-are ∙ take-append-drop t bs in
         let n : length (bytesOf (streamSent c mode (x .first) [])) ≡ t = ap length bytes-are ∙ length-take-le t bs inside in
         subst (λ (k : ℕ). Lists mode bs k (x .first) (ours .list kind mode bs ts te to)) n
         (subst (λ (l : List ℕ). Lists mode l (length (bytesOf (streamSent c mode (x .first) []))) (x .first) (ours .list kind mode l ts te to)) a
-        (listed kind mode c (x .first) (drop t bs) fits known o ts te to (omega arith) (omega arith) (omega arith)))
+        (listed kind mode c (x .first) (drop t bs) fits known o ts te to (room .starts) (room .ends) (room .offsets)))
 
-    again : (out : List ℕ) → rewritten ours kind mode bs (ours .list kind mode bs ts te to) out ≡ wrote kind mode (x .first) out c fits
-    again out = again-is kind mode bs t (x .first) (ours .list kind mode bs ts te to) out lists
+    again : Room (length (x .first .windows)) ts te to → (out : List ℕ) → rewritten ours kind mode bs (ours .list kind mode bs ts te to) out ≡ wrote kind mode (x .first) out c fits
+    again room out = again-is kind mode bs t (x .first) (ours .list kind mode bs ts te to) out (lists room)
 
-  pub relisted : Reading c mode (take t bs) → Again ours kind mode bs t c (ours .list kind mode bs ts te to)
+  pub relisted : Reading c mode (take t bs) → Again ours kind mode bs t c ts te to
   relisted r =
       record {
         reading = r;
         lists = lists;
-        number = λ x out room. ap (λ (w : AfterWrite). w .written .number) (again x out) ∙ wrote-number kind mode (x .first) out c (fits x) known o room;
-        bytes = λ x out z.
-            ap offered (again x out)
-            ∙ wrote-bytes kind mode (x .first) out c (fits x) (ap (λ (w : AfterWrite). w .written .number) (sym (again x out)) ∙ z);
+        number = λ x tables out room.
+            ap (λ (w : AfterWrite). w .written .number) (again x tables out) ∙ wrote-number kind mode (x .first) out c (fits x) known o room;
+        bytes = λ x tables out z.
+            ap offered (again x tables out)
+            ∙ wrote-bytes kind mode (x .first) out c (fits x) (ap (λ (w : AfterWrite). w .written .number) (sym (again x tables out)) ∙ z);
       }

@@ -1,9 +1,10 @@
--- The second demand of our loader, from its clause (a). Assumes nothing.
-use Rattle.demands.specs.Demand2.{Demand2a}
+-- The second demand of our loader. Assumes nothing.
 use Rattle.demands.specs.Second.{Demand2}
 use Rattle.demands.specs.Ours.{ours}
+use Rattle.demands.proofs.SecondA.{second-a}
 use Rattle.demands.proofs.SecondB.{second-b}
 use Rattle.demands.proofs.SecondC.{second-c}
+use Rattle.demands.proofs.WrittenLoads.{written-loads}
 
-pub second : Demand2a ours → Demand2 ours
-second a = record { a = a; b = second-b; c = second-c }
+pub demand2 : Demand2 ours
+demand2 = record { a = second-a; b = second-b; c = second-c; loads = written-loads ours second-a second-b }

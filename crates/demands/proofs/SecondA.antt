@@ -39,7 +39,7 @@ use Rattle.demands.proofs.Stop.{bytes-take}
 
 -- ---- slices one after another are one slice
 
-bytes-front : (xs ys : List ℕ) → Bytes (xs ++ ys) → Bytes xs
+pub bytes-front : (xs ys : List ℕ) → Bytes (xs ++ ys) → Bytes xs
 bytes-front [] ys h = tt
 bytes-front (x ∷ xs) ys h = (h .0, bytes-front xs ys (h .1))
 
@@ -48,7 +48,7 @@ bytes-back [] ys h = h
 bytes-back (x ∷ xs) ys h = bytes-back xs ys (h .1)
 
 -- a run that is open after a and b was open after a
-open-front : (a b : List ℕ) (r : Run) → runOf r (a ++ b) .number ≡ more → runOf r a .number ≡ more
+pub open-front : (a b : List ℕ) (r : Run) → runOf r (a ++ b) .number ≡ more → runOf r a .number ≡ more
 open-front a b r h =
     by-test (eqb (runOf r a .number) more) (λ e. eqb-true (runOf r a .number) more e)
     (λ e.
@@ -77,7 +77,7 @@ went c m a o e b h =
     }
 
 -- where the run is open before the last of them
-slices-join : (ps : List (List ℕ)) (c : Chain) (m last : List ℕ) → openNumber c (length m) ≡ done → length (c .registers) ≡ most-devices
+pub slices-join : (ps : List (List ℕ)) (c : Chain) (m last : List ℕ) → openNumber c (length m) ≡ done → length (c .registers) ≡ most-devices
     → Bytes (joined ps) → runOf (run c m more) (joined ps) .number ≡ more → slices ours c m ps last ≡ ours .slice c m (joined ps ++ last)
 slices-join [] c m last o e b h = refl
 slices-join (p ∷ ps) c m last o e b h =
@@ -144,6 +144,18 @@ module _ (c : Chain) (m : List ℕ) (check mode : ℕ) (s : Section) (ss : List 
       subst (λ (a : AfterSlice). Seen check c m xs done a) (sym (sliced bs))
       (seen check mode c m bs xs done walk short (accepted-done bs o m accepted))
 
+  -- what follows the postamble is not looked at
+  unlooked : (rest : List ℕ) → ours .slice o m (bs ++ rest) ≡ ours .slice o m bs
+  unlooked rest =
+      let d = accepted-done bs o m accepted in
+      let r : runOf (run o m more) (bs ++ rest) ≡ runOf (run o m more) bs =
+      run-append bs rest (run o m more) ∙ run-over rest (runOf (run o m more) bs) (λ q. apart (sym d ∙ q))
+      in
+      sliced (bs ++ rest) ∙ ap (λ (r : Run). record { fed = fedOf r; memory = r .memory }) r ∙ sym (sliced bs)
+    where
+      apart : _≡_ {A = ℕ} done more → ⊥
+      apart q = omega arith
+
   seen-part : (j : ℕ) → j < length xs → Seen check c m (take j xs) more (ours .slice o m (take j bs))
   seen-part j h =
       subst (λ (a : AfterSlice). Seen check c m (take j xs) more a) (sym (sliced (take j bs)))
@@ -151,8 +163,9 @@ module _ (c : Chain) (m : List ℕ) (check mode : ℕ) (s : Section) (ss : List 
       (accepted-open j bs o m accepted (omega (arith, bytes-long xs))))
 
   -- however it is cut
-  cut-whole : (ps : List (List ℕ)) (b : ℕ) (last : List ℕ) → joined ps ++ (b ∷ last) ≡ bs → Seen check c m xs done (slices ours o m ps (b ∷ last))
-  cut-whole ps b last e =
+  cut-whole : (ps : List (List ℕ)) (b : ℕ) (last rest : List ℕ) → joined ps ++ (b ∷ last) ≡ bs
+      → Seen check c m xs done (slices ours o m ps ((b ∷ last) ++ rest))
+  cut-whole ps b last rest e =
       let n = length (joined ps) in
       let t : take n bs ≡ joined ps = ap (take n) (sym e) ∙ take-append-seam (joined ps) (b ∷ last) in
       let l : n < length bs = omega (arith, ap length e, length-append (joined ps) (b ∷ last)) in
@@ -160,8 +173,9 @@ module _ (c : Chain) (m : List ℕ) (check mode : ℕ) (s : Section) (ss : List 
       ap (λ (l : List ℕ). runOf (run o m more) l .number) (sym t) ∙ accepted-open n bs o m accepted l
       in
       let small = bytes-front (joined ps) (b ∷ last) (subst Bytes (sym e) (f .bytes)) in
-      let j = slices-join ps o m (b ∷ last) sound (i .registers) small open-before ∙ ap (λ (l : List ℕ). ours .slice o m l) e in
-      subst (λ (a : AfterSlice). Seen check c m xs done a) (sym j) seen-whole
+      let all : joined ps ++ ((b ∷ last) ++ rest) ≡ bs ++ rest = sym (append-assoc (joined ps) (b ∷ last) rest) ∙ ap (λ (l : List ℕ). l ++ rest) e in
+      let j = slices-join ps o m ((b ∷ last) ++ rest) sound (i .registers) small open-before ∙ ap (λ (l : List ℕ). ours .slice o m l) all in
+      subst (λ (a : AfterSlice). Seen check c m xs done a) (sym (j ∙ unlooked rest)) seen-whole
 
   cut-part : (k : ℕ) → k < length xs → (ps : List (List ℕ)) (last : List ℕ) → joined ps ++ last ≡ take k bs
       → Seen check c m (take k xs) more (slices ours o m ps last)
@@ -178,9 +192,9 @@ second-a c m check mode s ss i k f =
     let e = start-done c (length m) mode check (i .sound) (i .closed-place) k in
     record {
       started = ap (λ (r : Made). r .number) e;
-      whole = λ ps b last q.
-          subst (λ (d : Made). Seen check c m (streamSent c mode s ss) done (slices ours (d .chain) m ps (b ∷ last))) (sym e)
-          (cut-whole c m check mode s ss i k f ps b last q);
+      whole = λ ps b last rest q.
+          subst (λ (d : Made). Seen check c m (streamSent c mode s ss) done (slices ours (d .chain) m ps ((b ∷ last) ++ rest))) (sym e)
+          (cut-whole c m check mode s ss i k f ps b last rest q);
       part = λ j h ps last q.
           subst (λ (d : Made). Seen check c m (take j (streamSent c mode s ss)) more (slices ours (d .chain) m ps last)) (sym e)
           (cut-part c m check mode s ss i k f j h ps last q);

@@ -20,7 +20,7 @@ use Rattle.hunt.proofs.Framed.{framed-hunt}
 use Rattle.demands.specs.Grammar.{Window, Section, sectionsSent, streamSent, bytesOf, AllFit, SectionFits, Bytes}
 use Rattle.demands.specs.Loader.{AfterWrite}
 use Rattle.demands.specs.Demand3.{offered}
-use Rattle.demands.specs.Files.{cells, nulled, nullsOff, wanted, given, Lists, Wrote, Demand2b}
+use Rattle.demands.specs.Files.{Room, cells, nulled, nullsOff, wanted, given, Lists, Wrote, Demand2b}
 use Rattle.demands.specs.Ours.{ours}
 use Rattle.demands.proofs.SectionBytes.{windowsBytes, section-bytes, serial-one, starts-many}
 use Rattle.demands.proofs.Written.{wrote, wrote-bytes, Made, made}
@@ -120,13 +120,13 @@ module _ (kind mode control a0 a1 a2 : ℕ) (ss es d out : List ℕ) (c : Chain)
     given-are : given ours mode bs ≡ bytesOf (streamSent c mode section [])
     given-are = ap (given ours mode) bytes-are ∙ given-is c mode section section-bytes-small
 
-    lists : (ts te to : List ℕ) → length (k .windows) ≤ length ts → length (k .windows) ≤ length te → length (k .windows) ≤ length to
+    lists : (ts te to : List ℕ) → Room (length (k .windows)) ts te to
         → Lists mode (given ours mode bs) (length (given ours mode bs)) section (ours .list kind mode (given ours mode bs) ts te to)
-    lists ts te to a b e =
+    lists ts te to room =
         subst (λ (l : List ℕ). Lists mode l (length l) section (ours .list kind mode l ts te to)) (sym given-are)
         (subst (λ (l : List ℕ). Lists mode l (length (bytesOf (streamSent c mode section []))) section (ours .list kind mode l ts te to))
         (append-nil (bytesOf (streamSent c mode section [])))
-        (listed kind mode c section [] section-fits (tells .known) (record { least = tells .least; most = tells .most }) ts te to a b e))
+        (listed kind mode c section [] section-fits (tells .known) (record { least = tells .least; most = tells .most }) ts te to (room .starts) (room .ends) (room .offsets)))
 
     wrote-it : Wrote ours kind mode control a0 a1 a2 ss es d bs c
     wrote-it =
@@ -143,6 +143,6 @@ module _ (kind mode control a0 a1 a2 : ℕ) (ss es d out : List ℕ) (c : Chain)
         }
 
 pub second-b : Demand2b ours
-second-b kind mode control a0 a1 a2 ss es d out c o u z =
+second-b kind mode control a0 a1 a2 ss es d out c u z =
     let a = tells kind mode control a0 a1 a2 ss es d out c u z in
     wrote-it kind mode control a0 a1 a2 ss es d out c u z (made (sizeOf kind) ss es d (a .same) (a .inside) (a .all))

@@ -103,7 +103,7 @@ module _ (c : Chain) (m : List ℕ) (kind mode : ℕ) (bs : List ℕ) (i : Idle 
     inside = subst (λ (n : ℕ). n ≤ length bs) (sym taken-many) (x .within)
 
 pub second-c : Demand2c ours
-second-c c m kind mode bs ts te to i one o u z hs he ho =
+second-c c m kind mode bs ts te to i one o u z =
     let x = used bs (with·place c (openedPlace mode writing)) m (sym (load-number c m kind mode bs i o) ∙ z) in
     relisted c kind mode bs ts te to (load ours mode c m bs .fed .answer .taken) one o (first-known c m kind mode bs i o one)
-    (inside c m kind mode bs i o u x) hs he ho (front-reading c m kind mode bs i o u x)
+    (inside c m kind mode bs i o u x) (front-reading c m kind mode bs i o u x)

@@ -7,7 +7,7 @@ use native.Mathlib.Nat.{mod-eq-of-lt, zero-add}
 use native.Mathlib.Omega.{arith}
 use lib.Dec.{eqb, lit<}
 use lib.ListN.{length, getD}
-use borrow.Author.Tests.{eq-eqb}
+use borrow.Author.Tests.{eq-eqb, eqb-true, eqb-false}
 use Rattle.chain.specs.declared.Chain.{Chain}
 use Rattle.chain.specs.Paper.{writing, checking, more}
 use Rattle.chain.specs.Rules.{pick}
@@ -15,6 +15,9 @@ use Rattle.chain.specs.Set.{with·place}
 use Rattle.chain.proofs.ByCases.{by-test}
 use Rattle.machine.specs.Run.{Run, run, runOf}
 use Rattle.machine.specs.Calls.{openedPlace, fedOf}
+use Rattle.machine.proofs.Slices.{fed-more, fed-over}
+use Rattle.machine.proofs.Stays.{run-stays}
+use Rattle.machine.proofs.Runs.{run-lasts}
 use Rattle.machine.proofs.Kept.{check-cells, check-registers}
 use Rattle.demands.specs.Grammar.{Sent, Store, memory, registers, lastTo}
 use Rattle.demands.specs.Demand2.{unlikes, Seen}
@@ -95,6 +98,17 @@ module _ (check mode : ℕ) (c : Chain) (m bs : List ℕ) where
         ∙ rw (zero-add (unlikes m xs)) (mod-eq-of-lt few)
         ∙ sym (ap (λ (q : Bool). pick q 0 (unlikes m xs)) e))
 
+-- an answer's chain has the run's devices, whether its place was closed or not
+fed-count : (r : Run) → fedOf r .chain .count ≡ r .chain .count
+fed-count r =
+    by-test (eqb (r .number) more) (λ q. ap (λ (d : Chain). d .count) (fed-more r (eqb-true (r .number) more q)))
+    (λ q. ap (λ (d : Chain). d .count) (fed-over r (eqb-false (r .number) more q)))
+
+fed-kinds : (r : Run) → fedOf r .chain .kinds ≡ r .chain .kinds
+fed-kinds r =
+    by-test (eqb (r .number) more) (λ q. ap (λ (d : Chain). d .kinds) (fed-more r (eqb-true (r .number) more q)))
+    (λ q. ap (λ (d : Chain). d .kinds) (fed-over r (eqb-false (r .number) more q)))
+
 -- a run from its start, over bytes whose walk is xs
 pub seen : (check mode : ℕ) (c : Chain) (m bs : List ℕ) (xs : List Sent) (n : ℕ)
     → sentOf (with·place c (openedPlace mode check)) bs ≡ xs → length xs < 2 ^ 32
@@ -116,4 +130,12 @@ seen check mode c m bs xs n s h e =
       cells-many = ap (λ (x : List ℕ). length x) a ∙ stored-many memory xs m (eqb check writing);
       regs = λ d l. ap (λ (x : List ℕ). getD x d 0) b ∙ stored registers xs (c .registers) (eqb check writing) d l;
       regs-many = ap (λ (x : List ℕ). length x) b ∙ stored-many registers xs (c .registers) (eqb check writing);
+      count = fed-count (ran check mode c m bs) ∙ run-lasts bs (run (with·place c (openedPlace mode check)) m more) .count;
+      kinds = fed-kinds (ran check mode c m bs) ∙ run-lasts bs (run (with·place c (openedPlace mode check)) m more) .kinds;
+      running =
+          by-test (eqb n more)
+          (λ q.
+          let k = e ∙ eqb-true n more q in
+          rw q (ap (λ (d : Chain). d .place .running) (fed-more (ran check mode c m bs) k) ∙ run-stays bs (with·place c (openedPlace mode check)) m k .running))
+          (λ q. rw q (ap (λ (d : Chain). d .place .running) (fed-over (ran check mode c m bs) (λ k. eqb-false n more q (sym e ∙ k)))));
     }

@@ -2,13 +2,13 @@
 -- Assumes nothing.
 use Prim.Native.Nat.{ℕ, _<_}
 use mathlib.Core.Bool.{Bool, true, false}
-use mathlib.Core.Path.{_≡_, refl, sym, _∙_}
-use mathlib.Core.List.{List, [], _∷_, _++_}
+use mathlib.Core.Path.{_≡_, refl, ap, sym, _∙_}
+use mathlib.Core.List.{List, [], _∷_, _++_, append-nil}
 use native.Mathlib.Omega.{arith}
 use lib.Dec.{eqb}
 use lib.ListN.{length, take, getD}
 use Rattle.chain.specs.declared.Chain.{Chain}
-use Rattle.chain.specs.Paper.{preamble, two-preambles, writing, done, more}
+use Rattle.chain.specs.Paper.{preamble, two-preambles, writing, checking, done, more}
 use Rattle.chain.specs.Rules.{pick}
 use Rattle.chain.specs.Kinds.{baseOf}
 use Rattle.chain.proofs.ByCases.{by-test}
@@ -36,13 +36,60 @@ module _ (l : Loader) (d : Demand2a l) (c : Chain) (m : List ℕ) (check mode : 
   pub whole-seen : Seen check c m (streamSent c mode s ss) done (l .slice (l .start c m mode check .chain) m (bytesOf (streamSent c mode s ss)))
   whole-seen =
       let b = begins c mode s ss in
-      rw (b .is) (d c m check mode s ss i o f .whole [] (b .first) (b .rest) (sym (b .is)))
+      let w = d c m check mode s ss i o f .whole [] (b .first) (b .rest) [] (sym (b .is)) in
+      rw (b .is) (rw append-nil at w)
 
   pub part-seen : (k : ℕ) → k < length (streamSent c mode s ss)
       → Seen check c m (take k (streamSent c mode s ss)) more (l .slice (l .start c m mode check .chain) m (take k (bytesOf (streamSent c mode s ss))))
   part-seen k h = d c m check mode s ss i o f .part k h [] (take k (bytesOf (streamSent c mode s ss))) refl
 
--- ---- every constant answer, refusing all with any number among them
+-- ---- refusing all, by whatever numbers; one number, one count of bytes taken, one count of mismatches for all; storing nothing
+
+module _ (l : Loader) (d : Demand2a l) where
+  abbrev A : (check : ℕ) → Seen check teaching cells0 (streamSent teaching 1 sectionA []) done (l .slice (l .start teaching cells0 1 check .chain) cells0 (bytesOf (streamSent teaching 1 sectionA [])))
+  A check = whole-seen l d teaching cells0 check 1 sectionA [] idle-teaching mode-one (fits-A check)
+
+  abbrev none : (check : ℕ) → Seen check teaching cells0 [] more (l .slice (l .start teaching cells0 1 check .chain) cells0 [])
+  none check = part-seen l d teaching cells0 check 1 sectionA [] idle-teaching mode-one (fits-A check) 0 (omega arith)
+
+  pub refuses-out : ((c : Chain) (m s : List ℕ) → l .slice c m s .fed .answer .number ≡ done → ⊥) → ⊥
+  refuses-out h = h (l .start teaching cells0 1 writing .chain) cells0 (bytesOf (streamSent teaching 1 sectionA [])) (A writing .number)
+
+  pub one-number-out : (n : ℕ) → ((c : Chain) (m s : List ℕ) → l .slice c m s .fed .answer .number ≡ n) → ⊥
+  one-number-out n h =
+      let e : _≡_ {A = ℕ} done more =
+      sym (A writing .number) ∙ h (l .start teaching cells0 1 writing .chain) cells0 (bytesOf (streamSent teaching 1 sectionA []))
+      ∙ sym (h (l .start teaching cells0 1 writing .chain) cells0 []) ∙ none writing .number
+      in
+      omega arith
+
+  pub one-taken-out : (n : ℕ) → ((c : Chain) (m s : List ℕ) → l .slice c m s .fed .answer .taken ≡ n) → ⊥
+  one-taken-out n h =
+      let e : _≡_ {A = ℕ} 15 0 =
+      sym (A writing .taken) ∙ h (l .start teaching cells0 1 writing .chain) cells0 (bytesOf (streamSent teaching 1 sectionA []))
+      ∙ sym (h (l .start teaching cells0 1 writing .chain) cells0 []) ∙ none writing .taken
+      in
+      omega arith
+
+  pub one-mismatches-out : (n : ℕ) → ((c : Chain) (m s : List ℕ) → l .slice c m s .fed .answer .mismatches ≡ n) → ⊥
+  unfolding baseOf
+  one-mismatches-out n h =
+      let e : _≡_ {A = ℕ} 3 0 =
+      sym (A checking .mismatches) ∙ h (l .start teaching cells0 1 checking .chain) cells0 (bytesOf (streamSent teaching 1 sectionA []))
+      ∙ sym (h (l .start teaching cells0 1 checking .chain) cells0 []) ∙ none checking .mismatches
+      in
+      omega arith
+
+  pub stores-nothing-out : ((c : Chain) (m s : List ℕ) → l .slice c m s .memory ≡ m) → ⊥
+  unfolding baseOf
+  stores-nothing-out h =
+      let e : _≡_ {A = ℕ} 0 0x11 =
+      ap (λ (x : List ℕ). getD x 9 0) (sym (h (l .start teaching cells0 1 writing .chain) cells0 (bytesOf (streamSent teaching 1 sectionA []))))
+      ∙ A writing .cells 9 (omega arith)
+      in
+      omega arith
+
+-- ---- by name: every constant answer, refusing all with any number among them
 
 pub constant-out : (n t w : ℕ) → Demand2a (constant n t w) → ⊥
 constant-out n t w d =

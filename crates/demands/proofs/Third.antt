@@ -15,7 +15,7 @@ use Rattle.machine.specs.Run.{Run, run, runOf}
 use Rattle.machine.specs.Calls.{openedPlace, answered, fedOf, sliceOf, sliceMemory}
 use Rattle.demands.specs.Grammar.{Sent, bytesOf, Bytes}
 use Rattle.demands.specs.Loader.{AfterSlice, Idle, Mode}
-use Rattle.demands.specs.Demand3.{Reading, meant, Clear, load, Whole, offered, Closes, Stopped, Demand3}
+use Rattle.demands.specs.Demand3.{Reading, meant, Clear, load, Whole, offered, Closes, Stopped}
 use Rattle.demands.proofs.Along.{sentOf}
 use Rattle.demands.proofs.Accepted.{Accepted, accepted-done, accepted-open, accepted-bytes, accepted-taken}
 use Rattle.demands.proofs.Free.{unbarred-stream}
@@ -209,11 +209,17 @@ module _ (closing : Closing) (given : Given closing) (c : Chain) (m : List ℕ) 
         load-is closing c m mode (idle .sound) (idle .closed-place) k (take j bs)
         ∙ slice-going closing (begun c mode) m (take j bs) o-sound stop-more
 
--- every stream that loads whole
-pub third : (closing : Closing) → Given closing → Demand3 (ours closing)
+-- every stream that loads whole, stopped after one slice
+pub record HeldOnce (closing : Closing) (mode : ℕ) (bs : List ℕ) (c : Chain) (m : List ℕ) : Type 0 where
+  pub reads : Reading c mode bs
+  pub stops : (x : Reading c mode bs) → Clear (x .first) (x .others) → (k : ℕ) → k < length bs
+      → Stopped (ours closing) mode bs c m (take k (meant x)) (load (ours closing) mode c m (take k bs))
+
+pub third : (closing : Closing) → Given closing → (c : Chain) (m : List ℕ) (mode : ℕ) (bs : List ℕ) → Idle c m → Mode mode → Bytes bs
+    → Whole (ours closing) mode bs c m → HeldOnce closing mode bs c m
 third closing given c m mode bs idle k small w =
     record {
-      reading = reading closing given c m mode bs idle k small w;
+      reads = reading closing given c m mode bs idle k small w;
       stops = λ x clear j l.
           subst (λ (s : AfterSlice). Stopped (ours closing) mode bs c m (take j (meant x)) s)
           (sym (stop-is closing given c m mode bs idle k small w x clear j l))

@@ -13,7 +13,7 @@ use Rattle.writer.specs.Stream.{null, leadIn}
 use Rattle.demands.specs.Grammar.{Window, Section, streamSent, bytesOf}
 use Rattle.demands.specs.Loader.{Loader, AfterList}
 use Rattle.demands.specs.Demand3.{Reading, offered}
-use Rattle.demands.specs.Files.{nulled, nullsOff, wanted, One, rewritten, Again}
+use Rattle.demands.specs.Files.{nulled, nullsOff, wanted, Room, One, rewritten, Again}
 use Rattle.demands.proofs.SectionBytes.{serial-one}
 use Rattle.demands.proofs.Relisted.{alone}
 
@@ -27,8 +27,12 @@ module _ (c : Chain) (mode : ℕ) (x : Section) where
   unfolding leadIn
   wanted-serial e = rw (e, serial-one mode e)
 
-module _ (l : Loader) (kind mode : ℕ) (bs : List ℕ) (t : ℕ) (c : Chain) (r : AfterList) (again : Again l kind mode bs t c r) (one : One kind c)
-    (x : Reading c mode (take t bs)) (z : nulled (x .first .windows) ≡ x .first .windows) where
+module _ (l : Loader) (kind mode : ℕ) (bs : List ℕ) (t : ℕ) (c : Chain) (ts te to : List ℕ) (again : Again l kind mode bs t c ts te to) (one : One kind c)
+    (x : Reading c mode (take t bs)) (room : Room (length (x .first .windows)) ts te to) (z : nulled (x .first .windows) ≡ x .first .windows) where
+  -- the listing
+  abbrev r : AfterList
+  r = l .list kind mode bs ts te to
+
   stream-is : bytesOf (streamSent c mode (nullsOff (x .first)) []) ≡ take t bs
   stream-is =
       ap
@@ -45,8 +49,8 @@ module _ (l : Loader) (kind mode : ℕ) (bs : List ℕ) (t : ℕ) (c : Chain) (r
   comes : (ys : List ℕ) → wanted c mode (nullsOff (x .first)) ≡ ys → (out : List ℕ) → length ys ≤ length out
       → (rewritten l kind mode bs r out .written .number ≡ done) × (offered (rewritten l kind mode bs r out) ≡ ys)
   comes ys e out h =
-      let n = again .number x out (subst (λ (w : List ℕ). length w ≤ length out) (sym e) h) in
-      (n, again .bytes x out n ∙ e)
+      let n = again .number x room out (subst (λ (w : List ℕ). length w ≤ length out) (sym e) h) in
+      (n, again .bytes x room out n ∙ e)
 
   pub comes-back : eqb mode serial-external || eqb mode serial-internal ≡ false → (out : List ℕ) → length (take t bs) ≤ length out
       → (rewritten l kind mode bs r out .written .number ≡ done) × (offered (rewritten l kind mode bs r out) ≡ take t bs)

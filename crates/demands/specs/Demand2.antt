@@ -6,7 +6,7 @@ use mathlib.Core.List.{List, [], _∷_, _++_}
 use lib.Dec.{eqb}
 use lib.ListN.{length, getD, take}
 use Rattle.chain.specs.declared.Chain.{Chain}
-use Rattle.chain.specs.Paper.{writing, done, more, B3, B4}
+use Rattle.chain.specs.Paper.{closed, opened, writing, done, more, B3, B4}
 use Rattle.chain.specs.Rules.{pick}
 use Rattle.demands.specs.Grammar.{Target, framing, register, cell, Sent, Section, memory, registers, lastTo, bytesOf, streamSent, SectionsFit, Bytes}
 use Rattle.demands.specs.Loader.{Loader, AfterSlice, Idle, Mode}
@@ -50,6 +50,9 @@ pub record Seen (check : ℕ) (c : Chain) (m : List ℕ) (xs : List Sent) (n : �
   pub regs : (d : ℕ) → d < length (c .registers)
       → getD (a .fed .chain .registers) d 0 ≡ pick (eqb check writing) (lastTo registers xs d (getD (c .registers) d 0)) (getD (c .registers) d 0)
   pub regs-many : length (a .fed .chain .registers) ≡ length (c .registers)
+  pub count : a .fed .chain .count ≡ c .count
+  pub kinds : a .fed .chain .kinds ≡ c .kinds
+  pub running : a .fed .chain .place .running ≡ pick (eqb n more) opened closed
 
 -- slices fed one after another into a chain and its memory, and one slice more
 abbrev pub slices : Loader → Chain → List ℕ → List (List ℕ) → List ℕ → AfterSlice
@@ -60,11 +63,12 @@ abbrev pub joined : List (List ℕ) → List ℕ
 joined [] = []
 joined (p ∷ ps) = p ++ joined ps
 
--- the stream and each front part of it, cut into slices in any way; the last slice of a whole stream has its postamble
+-- the stream and each front part of it, cut into slices in any way; the last slice of a whole stream has its postamble, and whatever
+-- follows that is not looked at
 pub record Loads (l : Loader) (check mode : ℕ) (c : Chain) (m : List ℕ) (xs : List Sent) : Type 0 where
   pub started : l .start c m mode check .number ≡ done
-  pub whole : (ps : List (List ℕ)) (b : ℕ) (last : List ℕ) → joined ps ++ (b ∷ last) ≡ bytesOf xs
-      → Seen check c m xs done (slices l (l .start c m mode check .chain) m ps (b ∷ last))
+  pub whole : (ps : List (List ℕ)) (b : ℕ) (last rest : List ℕ) → joined ps ++ (b ∷ last) ≡ bytesOf xs
+      → Seen check c m xs done (slices l (l .start c m mode check .chain) m ps ((b ∷ last) ++ rest))
   pub part : (k : ℕ) → k < length xs → (ps : List (List ℕ)) (last : List ℕ) → joined ps ++ last ≡ take k (bytesOf xs)
       → Seen check c m (take k xs) more (slices l (l .start c m mode check .chain) m ps last)
 

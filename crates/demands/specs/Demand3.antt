@@ -2,12 +2,13 @@
 use Prim.Native.Nat.{ℕ, _+_, _≤_, _<_}
 use mathlib.Core.Bool.{false}
 use mathlib.Core.Path.{_≡_}
-use mathlib.Core.List.{List, [], _∷_}
+use mathlib.Core.List.{List, [], _∷_, _++_}
 use lib.ListN.{length, getD, take}
 use Rattle.chain.specs.declared.Chain.{Chain}
 use Rattle.chain.specs.Paper.{writing, done, more, B3, B4}
 use Rattle.demands.specs.Grammar.{sizeAt, Sent, Section, memory, registers, lastTo, bytesOf, streamSent, SectionsFit, Bytes}
 use Rattle.demands.specs.Loader.{Loader, AfterSlice, AfterWrite, Idle, Mode}
+use Rattle.demands.specs.Demand2.{slices, joined}
 
 -- a reading of a stream: sections that fit the chain, and whose bytes it is
 pub record Reading (c : Chain) (mode : ℕ) (bs : List ℕ) : Type 0 where
@@ -50,8 +51,8 @@ pub record Closes (l : Loader) (mode : ℕ) (bs : List ℕ) (s : AfterSlice) (cs
   pub again-cells : load l mode (t .fed .chain) (t .memory) bs .memory ≡ u .memory
   pub again-registers : load l mode (t .fed .chain) (t .memory) bs .fed .chain .registers ≡ u .fed .chain .registers
 
--- after a stop, where front was sent and s is what the slice left: each cell and register holds the last byte sent to it, or its old
--- value; an output of size + 3 bytes has room for the closing bytes
+-- after a stop, where front was sent and s is what the last slice left: each cell and register holds the last byte sent to it, or its
+-- old value; an output of size + 3 bytes has room for the closing bytes
 pub record Stopped (l : Loader) (mode : ℕ) (bs : List ℕ) (c : Chain) (m : List ℕ) (front : List Sent) (s : AfterSlice) : Type 0 where
   pub runs : s .fed .answer .number ≡ more
   pub taken : s .fed .answer .taken ≡ length front
@@ -59,19 +60,21 @@ pub record Stopped (l : Loader) (mode : ℕ) (bs : List ℕ) (c : Chain) (m : Li
   pub cells-many : length (s .memory) ≡ length m
   pub regs : (d : ℕ) → d < length (c .registers) → getD (s .fed .chain .registers) d 0 ≡ lastTo registers front d (getD (c .registers) d 0)
   pub regs-many : length (s .fed .chain .registers) ≡ length (c .registers)
-  pub room : (out : List ℕ) → length out ≡ sizeAt c (s .fed .chain .place .device) + 3
+  pub room : (out : List ℕ) → sizeAt c (s .fed .chain .place .device) + 3 ≤ length out
       → l .closing (s .fed .chain) (s .memory) out .written .number ≡ done
   pub closes : (out : List ℕ) → l .closing (s .fed .chain) (s .memory) out .written .number ≡ done
       → Closes l mode bs s (offered (l .closing (s .fed .chain) (s .memory) out))
       (l .slice (s .fed .chain) (s .memory) (offered (l .closing (s .fed .chain) (s .memory) out)))
       (load l mode c m bs)
 
--- every stream that loads whole has a reading, and for each reading with B4 clear every stop, 0 bytes included, is as the paper says.
+-- every stream that loads whole has a reading, and for each reading with B4 clear every stop, 0 bytes included and however those bytes
+-- were cut into slices, is as the paper says.
 -- In modes 3 and 4 the bytes are the hunted ones
 pub record Held (l : Loader) (mode : ℕ) (bs : List ℕ) (c : Chain) (m : List ℕ) : Type 0 where
   pub reading : Reading c mode bs
   pub stops : (x : Reading c mode bs) → Clear (x .first) (x .others) → (k : ℕ) → k < length bs
-      → Stopped l mode bs c m (take k (meant x)) (load l mode c m (take k bs))
+      → (ps : List (List ℕ)) (last : List ℕ) → joined ps ++ last ≡ take k bs
+      → Stopped l mode bs c m (take k (meant x)) (slices l (l .start c m mode writing .chain) m ps last)
 
 abbrev pub Demand3 : Loader → Type 0
 Demand3 l = (c : Chain) (m : List ℕ) (mode : ℕ) (bs : List ℕ) → Idle c m → Mode mode → Bytes bs → Whole l mode bs c m → Held l mode bs c m

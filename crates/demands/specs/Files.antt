@@ -64,7 +64,13 @@ given l mode bs =
     (take (l .hunt bs (replicate (length bs) 0) .hunted .length) (l .hunt bs (replicate (length bs) 0) .out))
     bs
 
--- a listing says what a section holds, t bytes taken: tables of n entries were lent, and the first ones are the windows'
+-- three tables have room for n windows
+pub record Room (n : ℕ) (ts te to : List ℕ) : Type 0 where
+  pub starts : n ≤ length ts
+  pub ends : n ≤ length te
+  pub offsets : n ≤ length to
+
+-- a listing says what a section holds, t bytes taken: the front parts of the tables are the windows'
 pub record Lists (mode : ℕ) (bs : List ℕ) (t : ℕ) (s : Section) (a : AfterList) : Type 0 where
   pub number : a .listed .number ≡ done
   pub taken : a .listed .taken ≡ t
@@ -89,19 +95,19 @@ pub record Wrote (l : Loader) (kind mode control a0 a1 a2 : ℕ) (ss es d : List
   pub bytes : bs ≡ wanted c mode (record { control = control; address0 = a0; address1 = a1; address2 = a2; windows = windows })
   pub given-are : given l mode bs
       ≡ bytesOf (streamSent c mode (record { control = control; address0 = a0; address1 = a1; address2 = a2; windows = windows }) [])
-  pub lists : (ts te to : List ℕ) → length windows ≤ length ts → length windows ≤ length te → length windows ≤ length to
+  pub lists : (ts te to : List ℕ) → Room (length windows) ts te to
       → Lists mode (given l mode bs) (length (given l mode bs)) (record { control = control; address0 = a0; address1 = a1; address2 = a2; windows = windows })
       (l .list kind mode (given l mode bs) ts te to)
+
+abbrev pub Demand2b : Loader → Type 0
+Demand2b l = (kind mode control a0 a1 a2 : ℕ) (ss es d out : List ℕ) (c : Chain) → Bytes (control ∷ a0 ∷ a1 ∷ a2 ∷ d)
+    → l .write kind mode control (a0 ∷ a1 ∷ a2 ∷ []) ss es d out .written .number ≡ done
+    → Wrote l kind mode control a0 a1 a2 ss es d (offered (l .write kind mode control (a0 ∷ a1 ∷ a2 ∷ []) ss es d out)) c
 
 -- a chain of one device of that kind
 pub record One (kind : ℕ) (c : Chain) : Type 0 where
   pub count : c .count ≡ 1
   pub first : getD (c .kinds) 0 0 ≡ kind
-
-abbrev pub Demand2b : Loader → Type 0
-Demand2b l = (kind mode control a0 a1 a2 : ℕ) (ss es d out : List ℕ) (c : Chain) → One kind c → Bytes (control ∷ a0 ∷ a1 ∷ a2 ∷ d)
-    → l .write kind mode control (a0 ∷ a1 ∷ a2 ∷ []) ss es d out .written .number ≡ done
-    → Wrote l kind mode control a0 a1 a2 ss es d (offered (l .write kind mode control (a0 ∷ a1 ∷ a2 ∷ []) ss es d out)) c
 
 -- written again from its listing
 abbrev pub rewritten : Loader → ℕ → ℕ → List ℕ → AfterList → List ℕ → AfterWrite
@@ -110,19 +116,21 @@ rewritten l kind mode bs a out =
     (gathered (preambleAt mode) bs (take (a .listed .windows) (a .starts)) (take (a .listed .windows) (a .ends)) (take (a .listed .windows) (a .offsets)))
     out
 
--- clause (c): bs, of which a write took t bytes and accepted them, has a reading; for every reading it lists as that, and is written again
--- as that, with the lead-in of the mode and the null bytes 00, where the output has room
-pub record Again (l : Loader) (kind mode : ℕ) (bs : List ℕ) (t : ℕ) (c : Chain) (a : AfterList) : Type 0 where
+-- clause (c): bs, of which a write took t bytes and accepted them, has a reading; for every reading, where the tables have room, it lists
+-- as that, and is written again as that, with the lead-in of the mode and the null bytes 00, where the output has room. In modes 3 and 4
+-- bs is the hunted bytes
+pub record Again (l : Loader) (kind mode : ℕ) (bs : List ℕ) (t : ℕ) (c : Chain) (ts te to : List ℕ) : Type 0 where
   pub reading : Reading c mode (take t bs)
-  pub lists : (x : Reading c mode (take t bs)) → Lists mode bs t (x .first) a
-  pub number : (x : Reading c mode (take t bs)) (out : List ℕ) → length (wanted c mode (nullsOff (x .first))) ≤ length out
-      → rewritten l kind mode bs a out .written .number ≡ done
-  pub bytes : (x : Reading c mode (take t bs)) (out : List ℕ) → rewritten l kind mode bs a out .written .number ≡ done
-      → offered (rewritten l kind mode bs a out) ≡ wanted c mode (nullsOff (x .first))
+  pub lists : (x : Reading c mode (take t bs)) → Room (length (x .first .windows)) ts te to
+      → Lists mode bs t (x .first) (l .list kind mode bs ts te to)
+  pub number : (x : Reading c mode (take t bs)) → Room (length (x .first .windows)) ts te to → (out : List ℕ)
+      → length (wanted c mode (nullsOff (x .first))) ≤ length out
+      → rewritten l kind mode bs (l .list kind mode bs ts te to) out .written .number ≡ done
+  pub bytes : (x : Reading c mode (take t bs)) → Room (length (x .first .windows)) ts te to → (out : List ℕ)
+      → rewritten l kind mode bs (l .list kind mode bs ts te to) out .written .number ≡ done
+      → offered (rewritten l kind mode bs (l .list kind mode bs ts te to) out) ≡ wanted c mode (nullsOff (x .first))
 
--- tables of 255 entries have room for every listing
 abbrev pub Demand2c : Loader → Type 0
 Demand2c l = (c : Chain) (m : List ℕ) (kind mode : ℕ) (bs ts te to : List ℕ) → Idle c m → One kind c → Mode mode → Bytes bs
     → load l mode c m bs .fed .answer .number ≡ done
-    → 255 ≤ length ts → 255 ≤ length te → 255 ≤ length to
-    → Again l kind mode bs (load l mode c m bs .fed .answer .taken) c (l .list kind mode bs ts te to)
+    → Again l kind mode bs (load l mode c m bs .fed .answer .taken) c ts te to
