@@ -5,4 +5,3 @@ pub mod Ends
 pub mod Rows
 pub mod Sound
 pub mod Closes
-pub mod Cases

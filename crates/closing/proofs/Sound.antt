@@ -8,6 +8,7 @@ use native.Mathlib.Omega.{arith}
 use lib.Dec.{eqb, ltb, leb}
 use lib.ListN.{length, getD}
 use borrow.Author.Tests.{eqb-true, eqb-false, ltb-true, leb-true, not-true}
+use Rattle.chain.proofs.Sizes.{size-most, size-least}
 use Rattle.chain.specs.declared.Chain.{Chain}
 use Rattle.chain.specs.Paper.{at·control, at·data, closed, opened, most-devices, most-memory, checking, done, bad-chain, ill-formed, no-run, B3}
 use Rattle.chain.specs.Rules.{pick, allFrom, allOf, from}
@@ -75,23 +76,12 @@ place-parts false b r o w h f = absurd (true≢false h)
 
 -- ---- sizes, once for all kinds
 
-pub pick-all : (P : ℕ → Type 0) (b : Bool) (x y : ℕ) → P x → P y → P (pick b x y)
-pick-all P true x y p q = p
-pick-all P false x y p q = q
-
 pub record SizeFits (n : ℕ) : Type 0 where
   pub most : n ≤ 16381
   pub least : (n ≡ 0 → ⊥) → 52 ≤ n
 
 pub size-fits : (k : ℕ) → SizeFits (sizeOf k)
-unfolding sizeOf
-size-fits k =
-    pick-all SizeFits (eqb 0 k) 52 _ (record { most = omega arith; least = λ _. omega arith })
-    (pick-all SizeFits (eqb 2 k) 2665 _ (record { most = omega arith; least = λ _. omega arith })
-    (pick-all SizeFits (eqb 3 k) 4141 _ (record { most = omega arith; least = λ _. omega arith })
-    (pick-all SizeFits (eqb 5 k) 8065 _ (record { most = omega arith; least = λ _. omega arith })
-    (pick-all SizeFits (eqb 10 k) 16381 0 (record { most = omega arith; least = λ _. omega arith })
-    (record { most = omega arith; least = λ h. absurd (h refl) })))))
+size-fits k = record { most = size-most k; least = size-least k }
 
 -- a device's memory ends where that of a later one begins, or before
 base-below : (ks : List ℕ) (i n : ℕ) → i < n → n ≤ length ks → baseOf ks i + sizeOf (getD ks i 0) ≤ baseOf ks n

@@ -9,6 +9,8 @@ use native.Mathlib.Nat.{mod-eq-of-lt}
 use borrow.Author.Tests.{le-leb, lt-leb, ltb-true, ltb-false, leb-true, leb-false, eqb-true, eqb-false, eq-eqb, ne-eqb}
 use lib.Dec.{eqb, ltb, leb}
 use lib.ListN.{length, getD, drop, replicate}
+use Rattle.chain.proofs.ByCases.{by-test}
+use Rattle.chain.proofs.Sizes.{size-most}
 use Rattle.chain.specs.declared.Chain.{Chain}
 use Rattle.chain.specs.Paper.{preamble, postamble, at·second, at·control, at·address, at·address2, at·address3, at·count, writing, first-mode, two-preambles, done, no-preamble, bad-check-byte, ends-here, last-device, too-short, more, B2}
 use Rattle.chain.specs.Rules.{pick, from}
@@ -25,7 +27,7 @@ use Rattle.lister.specs.declared.window.ReadWindow.{ReadWindow}
 use Rattle.lister.specs.Windows.{windowsStop, windowsOf}
 use Rattle.lister.specs.declared.Listed.{Listed}
 use Rattle.lister.specs.Listing.{preambleAt, controlAt, countAt, headStop, checkStop, streamStop, anyShorter, listStop, listedOf, listed, listing, Lists}
-use Rattle.lister.proofs.Windows.{by-test, windows-inside}
+use Rattle.lister.proofs.Windows.{windows-inside}
 use Rattle.lister.proofs.Listings.{then-done, head-done, stream-below, list-done, preamble-first, preamble-second, head-none, head-bad, head-one, head-no-second, head-bad-second, head-two}
 use Rattle.lister.proofs.Tables.{listing-all}
 use Rattle.lister.proofs.Runs.{tick, inc, endOf, ticked, Takes, takes-whole, takes-stop, takes-ends, takes-then, run-ends, run-on, run-dry, inWrite, waits, storedAll, windows-as-machine}
@@ -270,13 +272,7 @@ module _ (kind : ℕ) (ks : List ℕ) (mode : ℕ) (m s : List ℕ) where
 -- ---- the listing
 
 size-fits : (k : ℕ) → sizeOf k ≤ 65535
-unfolding sizeOf
-size-fits k =
-    below (eqb 0 k) 52 _ (omega arith) (below (eqb 2 k) 2665 _ (omega arith) (below (eqb 3 k) 4141 _ (omega arith) (below (eqb 5 k) 8065 _ (omega arith) (below (eqb 10 k) 16381 0 (omega arith) (omega arith)))))
-  where
-    below : (b : Bool) (x y : ℕ) → x ≤ 65535 → y ≤ 65535 → pick b x y ≤ 65535
-    below true x y h g = h
-    below false x y h g = g
+size-fits k = omega (arith, size-most k)
 
 -- what the machine makes of a stream, lent any memory m
 abbrev pub machineOf : ℕ → List ℕ → ℕ → List ℕ → List ℕ → Run

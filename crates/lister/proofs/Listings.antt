@@ -7,13 +7,14 @@ use native.Mathlib.Omega.{arith}
 use borrow.Author.Tests.{lt-ltb, ltb-true, ltb-false, leb-true, eqb-true, eqb-false}
 use lib.Dec.{eqb, ltb, leb}
 use lib.ListN.{length, getD}
+use Rattle.chain.proofs.ByCases.{by-test}
 use Rattle.chain.specs.Paper.{preamble, postamble, first-mode, two-preambles, done, bad-chain, bad-mode, no-preamble, bad-check-byte, ends-here, last-device, too-short, more, B2}
 use Rattle.chain.specs.Rules.{pick, from}
 use Rattle.lister.specs.declared.stream.Stop.{Stop}
 use Rattle.lister.specs.Stops.{stop, _then_}
 use Rattle.lister.specs.Windows.{windowsStop}
 use Rattle.lister.specs.Listing.{preambleAt, controlAt, countAt, headStop, checkStop, streamStop, anyShorter, listStop}
-use Rattle.lister.proofs.Windows.{by-test, or-no, windows-reach}
+use Rattle.lister.proofs.Windows.{or-no, windows-reach}
 
 -- ---- rows
 

@@ -9,6 +9,7 @@ use borrow.Author.Tests.{lt-ltb, le-ltb, le-leb, lt-leb, ltb-false, leb-true, le
 use lib.Dec.{eqb, ltb, leb, lit<}
 use lib.ListN.{length, getD, take, drop, length-drop}
 use lib.Seq.{sets, length-take-le}
+use Rattle.chain.proofs.ByCases.{by-test}
 use Rattle.chain.specs.declared.Chain.{Chain}
 use Rattle.chain.specs.Paper.{at·null, at·start, at·start-low, at·end, at·end-low, at·data, at·check, opened, writing, done, bad-start, bad-end, more}
 use Rattle.chain.specs.Rules.{pick}
@@ -23,7 +24,7 @@ use Rattle.lister.specs.declared.stream.Stop.{Stop}
 use Rattle.lister.specs.declared.window.ReadWindow.{ReadWindow}
 use Rattle.lister.specs.Stops.{stop, _then_}
 use Rattle.lister.specs.Windows.{startAt, endAt, nextAt, windowStop, readWindowOf, windowsStop, windowsOf}
-use Rattle.lister.proofs.Windows.{by-test, ways, number-is, next-is, is-whole, whole-next}
+use Rattle.lister.proofs.Windows.{ways, number-is, next-is, is-whole, whole-next}
 
 -- ---- any run
 

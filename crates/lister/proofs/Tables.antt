@@ -8,6 +8,7 @@ use lib.ListN.{length, set, drop, length-set, length-map}
 use lib.Seq.{sets, sets-eq}
 use borrow.Author.Tests.{eq-eqb, ne-eqb, eqb-true, eqb-false}
 use lib.Dec.{eqb}
+use Rattle.chain.proofs.ByCases.{by-test}
 use Rattle.chain.specs.Paper.{done}
 use Rattle.chain.specs.Kinds.{sizeOf}
 use Rattle.lister.specs.declared.stream.Stop.{Stop}
@@ -16,7 +17,7 @@ use Rattle.lister.specs.declared.Listed.{Listed}
 use Rattle.lister.specs.Stops.{ifDone}
 use Rattle.lister.specs.Windows.{readWindowOf, windowsStop, windowsOf}
 use Rattle.lister.specs.Listing.{preambleAt, countAt, listStop, listedOf, listingOf, startsOf, endsOf, offsetsOf, listed, listing, Lists}
-use Rattle.lister.proofs.Windows.{by-test, windows-first, windows-list-none, windows-length, next-is, reach}
+use Rattle.lister.proofs.Windows.{windows-first, windows-list-none, windows-length, next-is, reach}
 use Rattle.lister.proofs.Listings.{list-done}
 
 -- what is left to write from i on gives the whole table

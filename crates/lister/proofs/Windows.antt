@@ -7,6 +7,7 @@ use native.Mathlib.Omega.{arith}
 use borrow.Author.Tests.{lt-ltb, le-ltb, le-leb, lt-leb, ltb-true, ltb-false, leb-true, leb-false, eqb-true, eqb-false, not-true, not-false}
 use lib.Dec.{eqb, ltb, leb}
 use lib.ListN.{length}
+use Rattle.chain.proofs.ByCases.{by-test}
 use Rattle.chain.specs.Paper.{done, bad-start, bad-end, more}
 use Rattle.chain.specs.Rules.{pick}
 use Rattle.lister.specs.declared.stream.Stop.{Stop}
@@ -72,10 +73,6 @@ module _ (size : ℕ) (s : List ℕ) (at : ℕ) where
   read-whole e = rw e
 
 -- ---- by cases
-
-pub by-test {ℓ} : {P : Type ℓ} (b : Bool) → (b ≡ true → P) → (b ≡ false → P) → P
-by-test true f g = f refl
-by-test false f g = g refl
 
 pub and-yes : (a b : Bool) → (a && b) ≡ true → (a ≡ true) × (b ≡ true)
 and-yes true true h = (refl, refl)
