@@ -9,7 +9,7 @@ use native.Mathlib.Omega.{arith}
 use lib.Dec.{eqb, ltb}
 use lib.ListN.{length, take, drop, length-append, length-take}
 use borrow.Author.Tests.{eqb-true, eqb-false, ne-eqb, le-ltb, ltb-true, ltb-false}
-use Rattle.chain.proofs.ByCases.{by-test}
+use Rattle.chain.proofs.ByCases.{by-test, either-way}
 use Rattle.chain.specs.declared.Chain.{Chain}
 use Rattle.chain.specs.declared.Place.{Place}
 use Rattle.chain.specs.Paper.{at·preamble, at·second, at·null, at·start, at·start-low, at·end, at·end-low, at·data, done, no-preamble, bad-start, bad-end, more}
@@ -24,7 +24,7 @@ use Rattle.closing.specs.Calls.{writtenNumber}
 use Rattle.closing.proofs.Meets.{number-open}
 use Rattle.closing.proofs.Ends.{Ends}
 use Rattle.closing.proofs.Rows.{takesFF, ends-0, ends-1, ends-2, ends-3, ends-4, ends-5, ends-6, ends-7, ends-8, ends-9, ends-10, ends-11, ends-12, ends-13}
-use Rattle.closing.proofs.Sound.{pick-all, Sound, sound}
+use Rattle.closing.proofs.Sound.{Sound, sound}
 
 -- when the closing bytes end a run with a number other than 0: 5 at a preamble, 11 and 12 where FF FF is sent as a start or an end
 abbrev pub endRules : Chain → List Rule
@@ -198,7 +198,7 @@ Over ((b gives k) ∷ rules) = (k ≡ more → ⊥) × Over rules
 
 first-over : (rules : List Rule) (n : ℕ) → (n ≡ more → ⊥) → Over rules → firstOf rules n ≡ more → ⊥
 first-over [] n h t = h
-first-over ((b gives k) ∷ rules) n h t = pick-all (λ x. x ≡ more → ⊥) b k (firstOf rules n) (t .0) (first-over rules n h (t .1))
+first-over ((b gives k) ∷ rules) n h t = either-way (λ (x : ℕ). x ≡ more → ⊥) b k (firstOf rules n) (t .0) (first-over rules n h (t .1))
 
 never-more : (c : Chain) → closingNumber c ≡ more → ⊥
 unfolding closingNumber
