@@ -11,7 +11,7 @@ use lib.Dec.{eqb}
 use lib.ListN.{length, getD, take, drop, take-append-drop}
 use lib.Seq.{take-suc}
 use Rattle.chain.specs.declared.Chain.{Chain}
-use Rattle.chain.specs.Paper.{done, more}
+use Rattle.chain.specs.Paper.{most-devices, done, more}
 use Rattle.chain.specs.Rules.{pick}
 use Rattle.chain.specs.Set.{with·place, closedPlace}
 use Rattle.chain.specs.State.{openRules, openNumber}
@@ -35,6 +35,8 @@ use Rattle.demands.specs.Demand1.{AsLent, EndedAt, ByteEnded}
 use Rattle.demands.proofs.Table.{table}
 use Rattle.demands.proofs.CallTables.{state-reads}
 use Rattle.demands.proofs.ByteTables.{slice-fed, slice-unfed, slice-on}
+use Rattle.machine.proofs.Slices.{slice-open}
+use Rattle.demands.specs.Grammar.{Bytes}
 use Rattle.demands.proofs.SliceTables.{open-of, at-byte}
 
 -- ---- calls that hand a state back
@@ -197,35 +199,8 @@ byte-ended c m b k n =
       mismatches = x .mismatches ∙ ap (λ (a : Fed). a .answer .mismatches % 2 ^ 32) f;
     }
 
--- ---- 16 leaves the run open
+-- ---- 16 leaves the run open, and the state takes the next byte
 
-step-running : (c : Chain) (m : List ℕ) (b : ℕ) → stepOf c m b .number ≡ more → stepOf c m b .chain .place .running ≡ c .place .running
-unfolding stepOf
-step-running c m b h =
-    by-test (eqb (numberOf c b) more) (λ e. rw e (advance-frame (counted (c .place) 1 (missedOf c m b)) b .running))
-    (λ e. absurd (eqb-false (numberOf c b) more e (sym (step-number c m b) ∙ h)))
-
-run-running : (s : List ℕ) (r : Run) → runOf r s .number ≡ more → runOf r s .chain .place .running ≡ r .chain .place .running
-run-running [] r h = unfold runOf in refl
-run-running (b ∷ bs) r h =
-    by-test (eqb (r .number) more)
-    (λ e.
-    let q = stepOf (r .chain) (r .memory) b in
-    let g : runOf q bs .number ≡ more = sym (ap (λ (x : Run). x .number) (first-on r b bs e)) ∙ h in
-    ap (λ (x : Run). x .chain .place .running) (first-on r b bs e)
-    ∙ run-running bs q g
-    ∙ step-running (r .chain) (r .memory) b (run-front bs q g))
-    (λ e. absurd (eqb-false (r .number) more e (sym (ap (λ (x : Run). x .number) (first-off r b bs e)) ∙ h)))
-  where
-    run-front : (bs : List ℕ) (q : Run) → runOf q bs .number ≡ more → q .number ≡ more
-    run-front bs q g =
-        by-test (eqb (q .number) more) (λ e. eqb-true (q .number) more e)
-        (λ e. let f = eqb-false (q .number) more e in absurd (f (sym (ap (λ (x : Run). x .number) (run-over bs q f)) ∙ g)))
-
-pub more-open : (c : Chain) (m s : List ℕ) → sliceNumber c m s ≡ more → sliceOf c m s .chain .place .running ≡ c .place .running
-more-open c m s h =
-    let z = open-of c m s h in
-    let e : runOf (run c m more) s .number ≡ more = sym (slice-on c m s z) ∙ h in
-    ap (λ (f : Fed). f .chain .place .running) (slice-fed c m s z)
-    ∙ ap (λ (x : Chain). x .place .running) (fed-open (runOf (run c m more) s) e)
-    ∙ run-running s (run c m more) e
+pub more-open : (c : Chain) (m s : List ℕ) → Bytes s → length (c .registers) ≡ most-devices → sliceNumber c m s ≡ more
+    → Running (sliceOf c m s .chain) (sliceMemory c m s)
+more-open c m s small eight h = takes-byte (sliceOf c m s .chain) (sliceMemory c m s) .0 (slice-open c m s small eight h)

@@ -39,7 +39,7 @@ loadAll a (s ∷ ss) = loadAll (load ours 1 (a .fed .chain) (a .memory) s) ss
 abbrev pub before : AfterSlice
 before = record { fed = record { chain = fresh 0; answer = record { number = done; taken = 0; mismatches = 0 } }; memory = replicate 52 0 }
 
--- an output of n bytes, none of them zero, and the same with bytes over its front
+-- an output of n bytes, none of them zero: what is not written shows
 abbrev pub lent : ℕ → List ℕ
 lent n = replicate n 0xee
 

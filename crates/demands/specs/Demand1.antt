@@ -5,7 +5,7 @@ use mathlib.Core.Path.{_≡_}
 use mathlib.Core.List.{List, [], _∷_}
 use lib.ListN.{length, take}
 use Rattle.chain.specs.declared.Chain.{Chain}
-use Rattle.chain.specs.Paper.{done, more}
+use Rattle.chain.specs.Paper.{most-devices, done, more}
 use Rattle.chain.specs.Set.{with·place, closedPlace}
 use Rattle.chain.specs.Calls.{noChain, newOf, resetOf, resetMemory}
 use Rattle.machine.specs.Calls.{startOf, sliceOf, sliceMemory}
@@ -78,8 +78,9 @@ pub record Refusals : Type 0 where
   pub slice : (c : Chain) (m s : List ℕ) → (Running c m → ⊥) → AsLent c m s
   pub slice-ended : (c : Chain) (m s : List ℕ) (k : ℕ) → k < length s → sliceNumber c m (take k s) ≡ more
       → sliceNumber c m (take (suc k) s) ≢ more → EndedAt c m s k
-  -- 16 leaves the run open
-  pub slice-more : (c : Chain) (m s : List ℕ) → sliceNumber c m s ≡ more → sliceOf c m s .chain .place .running ≡ c .place .running
+  -- 16 leaves the run open after those bytes: the state takes the next one. That bytes are below 256, and registers eight, the types say
+  pub slice-more : (c : Chain) (m s : List ℕ) → Bytes s → length (c .registers) ≡ most-devices → sliceNumber c m s ≡ more
+      → Running (sliceOf c m s .chain) (sliceMemory c m s)
   pub closing : (c : Chain) (m out : List ℕ) → closingOf c m (length out) .number ≢ done
       → (closingOf c m (length out) .length ≡ 0) × (closingOutput c m out ≡ out)
   pub save : (c : Chain) (m out : List ℕ) → saveOf c (length m) (length out) .number ≢ done

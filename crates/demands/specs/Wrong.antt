@@ -90,7 +90,8 @@ barring =
     withSlice
     (λ c m s. record { fed = fedOf (selfBarring (run c m more) s); memory = selfBarring (run c m more) s .memory })
 
--- a check that writes: it answers as ours, and stores what a write would
+-- a check that writes: it answers as ours, and stores what a write at the same place would. (A check with B3 set is no case of demand 2:
+-- number 7 refuses it)
 abbrev pub writing-chain : Chain → Chain
 writing-chain c =
     with·place c
