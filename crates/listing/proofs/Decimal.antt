@@ -9,7 +9,7 @@ use native.Mathlib.Nat.{pow-zero, pow-suc, one-le-pow, le-div-iff-mul-le, div-lt
 use lib.Dec.{ltb, lit<}
 use lib.ListN.{length, length-append}
 use Rattle.io.specs.Digits.{digits, Fewest}
-use Rattle.lister.proofs.Windows.{by-test}
+use Rattle.chain.proofs.ByCases.{by-test}
 use Rattle.listing.specs.Lines.{letter·W, digitsWithin, decimalOf, numbersOf, lineOf}
 use Rattle.listing.specs.Program.{answerLine}
 

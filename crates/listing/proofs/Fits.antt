@@ -15,7 +15,8 @@ use Rattle.hunt.specs.Hunt.{nowhere, foundAt}
 use Rattle.lister.specs.declared.stream.Stop.{Stop}
 use Rattle.lister.specs.Windows.{nextAt, windowStop, readWindowOf, windowsOf}
 use Rattle.lister.specs.Listing.{preambleAt, countAt, listingOf, startsOf, endsOf}
-use Rattle.lister.proofs.Windows.{by-test, is-whole}
+use Rattle.chain.proofs.ByCases.{by-test}
+use Rattle.lister.proofs.Windows.{is-whole}
 use Rattle.lister.proofs.Listings.{row-below, list-below}
 use Rattle.listing.specs.Lines.{numbersOf}
 use Rattle.listing.specs.Program.{most-input, most-windows, most-text, serial, givenOf, programStop, windowLines, windowsListed, linesOf, programLines, textOf}

@@ -15,7 +15,8 @@ use Rattle.lister.specs.declared.Listed.{Listed}
 use Rattle.lister.specs.Stops.{ifDone}
 use Rattle.lister.specs.Windows.{windowsStop, windowsOf}
 use Rattle.lister.specs.Listing.{preambleAt, countAt, listStop, listedOf, listingOf, startsOf, endsOf, Lists}
-use Rattle.lister.proofs.Windows.{by-test, windows-first, windows-list-none}
+use Rattle.chain.proofs.ByCases.{by-test}
+use Rattle.lister.proofs.Windows.{windows-first, windows-list-none}
 use Rattle.lister.proofs.Listings.{list-done}
 use Rattle.listing.specs.Lines.{Puts}
 use Rattle.listing.specs.Program.{most-windows, listerStop, windowLines, answerLine, linesOf}

@@ -15,7 +15,8 @@ use Rattle.lister.specs.declared.stream.Stop.{Stop}
 use Rattle.lister.specs.Stops.{stop, _then_}
 use Rattle.lister.specs.Windows.{windowStop, windowsStop}
 use Rattle.lister.specs.Listing.{preambleAt, controlAt, countAt, headStop, checkStop, streamStop, listStop}
-use Rattle.lister.proofs.Windows.{by-test, ways}
+use Rattle.chain.proofs.ByCases.{by-test}
+use Rattle.lister.proofs.Windows.{ways}
 use Rattle.listing.specs.Program.{most-windows, serial, givenOf, listerStop, programStop}
 
 abbrev pub printed : List ℕ

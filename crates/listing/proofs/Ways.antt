@@ -15,7 +15,7 @@ use Rattle.hunt.specs.declared.Hunted.{Hunted}
 use Rattle.hunt.specs.Hunt.{nowhere, foundAt, huntedBytes, huntNumber, huntOf, huntOut, Hunt}
 use Rattle.hunt.proofs.Answers.{hunted-count}
 use Rattle.lister.specs.Listing.{listStop, listingOf}
-use Rattle.lister.proofs.Windows.{by-test}
+use Rattle.chain.proofs.ByCases.{by-test}
 use Rattle.listing.specs.Program.{serial, listerStop, programStop, windowLines, answerLine, linesOf, programLines}
 
 -- what the hunt answers where there is room for all of the stream

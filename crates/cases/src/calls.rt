@@ -1,0 +1,211 @@
+// Each public call, made with what the script lends it; what it answers is printed, and so is the state that it hands back.
+use crate::script::Call;
+use crate::script::at;
+use crate::script::eight;
+use crate::script::least;
+use crate::script::long;
+use crate::script::rest;
+use crate::script::word;
+use crate::script::words;
+use crate::show;
+use chain::Chain;
+use chain::Made;
+use chain::Place;
+use machine::Fed;
+ghost use Prim.Native.Nat.{_≤_};
+
+// What stands in the lister's tables before the call.
+const WORD: u16 = 0xeeee;
+
+const LONG: u32 = 0xeeeeeeee;
+
+fn state(c: Chain) {
+    let ks = c.kinds;
+    let rs = c.registers;
+    let p = c.place;
+    show::byte(c.count);
+    show::text(b" ");
+    show::hex(&ks);
+    show::text(b" ");
+    show::hex(&rs);
+    show::text(b" ");
+    show::hex(
+        &[
+            p.running,
+            p.mode,
+            p.check,
+            p.device,
+            p.awaited,
+            p.left,
+            p.control,
+        ],
+    );
+    show::words(&[p.start, p.end, p.next]);
+    show::long(p.taken);
+    show::long(p.mismatches);
+}
+
+// The state that the arguments spell, in the order in which it is printed.
+fn spelled(s: &[u8]) -> Chain {
+    let p = Place {
+        running: at(s, 17),
+        mode: at(s, 18),
+        check: at(s, 19),
+        device: at(s, 20),
+        awaited: at(s, 21),
+        left: at(s, 22),
+        control: at(s, 23),
+        start: word(rest(s, 24)),
+        end: word(rest(s, 26)),
+        next: word(rest(s, 28)),
+        taken: long(rest(s, 30)),
+        mismatches: long(rest(s, 34)),
+    };
+    let ks = eight(rest(s, 1));
+    let rs = eight(rest(s, 9));
+    Chain {
+        count: at(s, 0),
+        kinds: ks,
+        registers: rs,
+        place: p,
+    }
+}
+
+// The state before the first call.
+pub fn zero() -> Chain {
+    spelled(&[])
+}
+
+fn lent(s: &[u8]) -> Chain {
+    let c = spelled(s);
+    state(c);
+    c
+}
+
+fn filled(letter: u8, n: usize) -> usize
+    ensures { λ r. ⌜ r ≤ n ⌝ }
+{
+    if letter == b'm' { n } else { 0 }
+}
+
+// The call m fills memory: a, a + b, a + 2b and so on.
+pub fn fill(call: Call, mem: &mut [u8]) {
+    let n = filled(call.letter, mem.len());
+    let mut v = call.a;
+    let mut i: usize = 0;
+    while i < n {
+        mem[i] = v;
+        v = std::num::wrapping_add_u8(v, call.b);
+        i += 1;
+    }
+}
+
+fn made(m: Made) -> Chain {
+    let c = m.chain;
+    show::byte(m.number);
+    state(c);
+    c
+}
+
+fn fed(f: Fed) -> Chain {
+    let c = f.chain;
+    show::byte(f.answer.number);
+    show::long(f.answer.taken);
+    show::long(f.answer.mismatches);
+    state(c);
+    c
+}
+
+fn written(number: u8, length: usize) {
+    show::byte(number);
+    show::long((length % 4294967296) as u32);
+}
+
+fn write(call: Call, args: &[u8], starts: &mut [u16], ends: &mut [u16], out: &mut [u8]) {
+    let address = [at(args, 0), at(args, 1), at(args, 2)];
+    let s = rest(args, 3);
+    words(s, starts);
+    let e = rest(s, 2 * starts.len());
+    words(e, ends);
+    let w = writer::write(
+        call.a,
+        call.b,
+        call.c,
+        address,
+        starts,
+        ends,
+        rest(e, 2 * ends.len()),
+        out,
+    );
+    written(w.number, w.length);
+}
+
+fn list(call: Call, s: &[u8], starts: &mut [u16], ends: &mut [u16], offsets: &mut [u32]) {
+    let l = lister::list(call.a, call.b, s, starts, ends, offsets);
+    let address = l.address;
+    show::byte(l.number);
+    show::byte(l.windows);
+    show::byte(l.control);
+    show::text(b" ");
+    show::hex(&address);
+    show::long(l.taken);
+    show::words(starts);
+    show::words(ends);
+    show::longs(offsets);
+}
+
+// The calls on a state; any other letter leaves it.
+pub fn on_state(call: Call, c: Chain, mem: &mut [u8], args: &[u8]) -> Chain {
+    let letter = call.letter;
+    match letter {
+        b'=' => lent(args),
+        b'n' => made(chain::new(call.a, eight(args), mem)),
+        b'r' => made(chain::reset(c, mem)),
+        b's' => made(machine::start(c, mem, call.a, call.b)),
+        b'b' => fed(machine::byte(c, mem, call.a)),
+        b'f' => fed(machine::slice(c, mem, args)),
+        b'p' => made(saved::pick_up(c, mem, args)),
+        _ => c,
+    }
+}
+
+// The calls with an output or tables, and text.
+pub fn on_output(call: Call, c: Chain, mem: &[u8], args: &[u8], out: &mut [u8]) {
+    let mut starts = [WORD; 512];
+    let mut ends = [WORD; 512];
+    let mut offsets = [LONG; 512];
+    let i = least(call.starts, 512);
+    let j = least(call.ends, 512);
+    let k = least(call.out, 512);
+    let letter = call.letter;
+    match letter {
+        b'c' => {
+            let w = closing::closing(c, mem, out);
+            written(w.number, w.length);
+        }
+        b'v' => {
+            let w = saved::save(c, mem, out);
+            written(w.number, w.length);
+        }
+        b'h' => {
+            let w = hunt::hunt(args, out);
+            written(w.number, w.length);
+        }
+        b'w' => {
+            write(call, args, &mut starts[0..i], &mut ends[0..j], out);
+        }
+        b'l' => {
+            list(
+                call,
+                args,
+                &mut starts[0..i],
+                &mut ends[0..j],
+                &mut offsets[0..k],
+            );
+        }
+        b'#' => {
+            show::text(args);
+        }
+        _ => {}
+    }
+}

@@ -1,0 +1,508 @@
+"""A model of document 01 in Python, written from the paper and not from the crates' code or definitions.
+
+It is short and slow on purpose: each function follows the paper's sentences in their order, which are quoted beside it. cases.py works
+out with it what the program `cases` must print. Each of the eleven calls answers its number first. Taken from the interface, not from the
+paper: the names of the state's fields, `running` and `check` as bytes of which any but 0 and 1 is not well formed in a lent state, and that
+start takes any check but 0 for a check. Where the paper leaves a choice, the readings in docs/DECISIONS.md are followed.
+"""
+
+from copy import deepcopy
+from dataclasses import dataclass, field
+
+# "Kinds and memory bytes are a constant table"
+SIZES = {0: 52, 2: 2665, 3: 4141, 5: 8065, 10: 16381}
+MOST_DEVICES = 8
+MOST_CELLS = 65536
+
+# "Preamble B2 hex, postamble 4D hex."
+PREAMBLE = 0xB2
+POSTAMBLE = 0x4D
+
+# "the control bit B2 is bit 2"
+B2, B3, B4 = 1 << 2, 1 << 3, 1 << 4
+
+COUNTERS = 2**32
+
+# "Awaited bytes, in order"
+(PREAMBLE_1, PREAMBLE_2, CONTROL, ADDRESS_1, ADDRESS_2, ADDRESS_3, COUNT, NULL, START_HIGH, START_LOW, END_HIGH, END_LOW, DATA, CHECK) = range(14)
+
+GOES_ON = 16
+
+
+@dataclass
+class Place:
+    """The open place; `running` is 0 where there is none and 1 where there is one. With 0 the other fields are no part of the state."""
+
+    running: int = 0
+    mode: int = 0
+    check: int = 0
+    device: int = 0
+    awaited: int = 0
+    left: int = 0
+    control: int = 0
+    start: int = 0
+    end: int = 0
+    next: int = 0
+    taken: int = 0
+    mismatches: int = 0
+
+
+@dataclass
+class Chain:
+    """ "The state holds the count, eight kinds (unused ones zero), eight control registers (unused ones zero) and the open place, if any." """
+
+    count: int = 0
+    kinds: list = field(default_factory=lambda: [0] * 8)
+    registers: list = field(default_factory=lambda: [0] * 8)
+    place: Place = field(default_factory=Place)
+
+    def base(self, device):
+        """ "Its memories lie one after another in one lent buffer." """
+        return sum(SIZES[k] for k in self.kinds[:device])
+
+    def size(self):
+        """The size of the current device."""
+        return SIZES[self.kinds[self.place.device]]
+
+    def stored(self):
+        """The stored register of the current device."""
+        return self.registers[self.place.device]
+
+
+# ---- Numbers 1 and 17 of a state
+
+
+def bad_chain(count, kinds, length):
+    """1: "count not 1 to 8, unknown kind, total over 65,536, or lent memory of another length" """
+    if not 1 <= count <= MOST_DEVICES:
+        return True
+    if any(k not in SIZES for k in kinds[:count]):
+        return True
+    total = sum(SIZES[k] for k in kinds[:count])
+    return total > MOST_CELLS or length != total
+
+
+def well_formed(c, registers, p):
+    """ "Well formed: .." of a place p with these registers in the chain c, of which count and kinds are used. """
+    # "mode 1 to 6, awaited 0 to 13, device in the chain, unused registers 0, mismatches 0 in a write."
+    if not 1 <= p.mode <= 6 or p.check not in (0, 1) or not 0 <= p.awaited <= 13 or not p.device < c.count:
+        return False
+    if any(registers[c.count :]):
+        return False
+    if not p.check and p.mismatches != 0:
+        return False
+    # "Awaited 0 and 1 only on device 0, 1 only in mode 6."
+    if p.awaited in (0, 1) and p.device != 0:
+        return False
+    if p.awaited == 1 and p.mode != 6:
+        return False
+    # "Control byte 0 before it is taken; after, in a write, equal to the stored register, and in a check with B3 clear."
+    stored = registers[p.device]
+    if p.awaited <= CONTROL:
+        if p.control != 0:
+            return False
+    elif p.check:
+        if p.control & B3:
+            return False
+    elif p.control != stored:
+        return False
+    # "Awaited 0 to 6 and 13: windows, start, end, next 0. 7 to 12: windows at least 1."
+    size = SIZES[c.kinds[p.device]]
+    if p.awaited <= COUNT or p.awaited == CHECK:
+        if (p.left, p.start, p.end, p.next) != (0, 0, 0, 0):
+            return False
+    elif p.left < 1:
+        return False
+    # "7, 8: start, end, next 0. 9: start's low byte 0, end and next 0. 10: start below size, end and next 0."
+    if p.awaited in (NULL, START_HIGH) and (p.start, p.end, p.next) != (0, 0, 0):
+        return False
+    if p.awaited == START_LOW and (p.start % 256, p.end, p.next) != (0, 0, 0):
+        return False
+    if p.awaited == END_HIGH and not (p.start < size and (p.end, p.next) == (0, 0)):
+        return False
+    # "11: start below size, end's low byte 0, next 0. 12: start <= next <= end < size."
+    if p.awaited == END_LOW and not (p.start < size and (p.end % 256, p.next) == (0, 0)):
+        return False
+    if p.awaited == DATA and not p.start <= p.next <= p.end < size:
+        return False
+    # "At 2: stored B4 clear, in a check B3 too."
+    if p.awaited == CONTROL and (stored & B4 or p.check and stored & B3):
+        return False
+    return True
+
+
+def state_number(c, mem):
+    """1, then 17: "a lent state (reset excepted) whose unused kinds or registers are not zero or whose open place is not well formed" """
+    if bad_chain(c.count, c.kinds, len(mem)):
+        return 1
+    if any(c.kinds[c.count :]) or any(c.registers[c.count :]):
+        return 17
+    if c.place.running not in (0, 1):
+        return 17
+    if c.place.running == 1 and not well_formed(c, c.registers, c.place):
+        return 17
+    return 0
+
+
+def open_number(c, mem):
+    """1, 17, then 4: "byte, slice, closing or save with no run open" """
+    return state_number(c, mem) or (0 if c.place.running else 4)
+
+
+# ---- New and reset
+
+
+def new(count, kinds, mem):
+    """ "A new state is made from a count and eight kinds, those past the count taken as zero, with zero registers and no open run. It leaves
+    memory as lent; refused, it is all zero." """
+    if bad_chain(count, kinds, len(mem)):
+        return 1, Chain()
+    return 0, Chain(count, kinds[:count] + [0] * (8 - count))
+
+
+def reset(c, mem):
+    """ "it zeroes memory, all registers and unused kinds and closes the run", "even with a run open" """
+    if bad_chain(c.count, c.kinds, len(mem)):
+        return 1, c, mem
+    return 0, Chain(c.count, c.kinds[: c.count] + [0] * (8 - c.count)), bytes(len(mem))
+
+
+# ---- The byte machine
+
+
+def start(c, mem, mode, check):
+    """ "Order: 1, 17 for the state, 2, 3" """
+    number = state_number(c, mem)
+    if number == 0 and not 1 <= mode <= 6:
+        number = 2
+    if number == 0 and c.place.running:
+        number = 3
+    if number != 0:
+        return number, c
+    c = deepcopy(c)
+    c.place = Place(running=1, mode=mode, check=1 if check else 0)
+    return 0, c
+
+
+def begins(c, device):
+    """6 and 7 of a B2 that would begin this device, or 0."""
+    # "B2 that would begin a device (in mode 6 the second) whose stored B4 is set"
+    if c.registers[device] & B4:
+        return 6
+    # "check, and that device's stored B3 is set"
+    if c.place.check and c.registers[device] & B3:
+        return 7
+    return 0
+
+
+def begin(c, device):
+    """The awaited byte is this device's control byte."""
+    c.place.device = device
+    c.place.control = 0
+    c.place.awaited = CONTROL
+
+
+def refusal(c, b):
+    """The number for which this byte is refused, or 0."""
+    p = c.place
+    # "At a preamble: 5, 6, 7." "awaited 0 or 1 and not B2"
+    if p.awaited in (PREAMBLE_1, PREAMBLE_2):
+        if b != PREAMBLE:
+            return 5
+        return 0 if p.awaited == PREAMBLE_1 and p.mode == 6 else begins(c, 0)
+    # "check, and .. the control byte sets B3"
+    if p.awaited == CONTROL and p.check and b & B3:
+        return 7
+    # "start not below the device's size, at its second byte"
+    if p.awaited == START_LOW and p.start + b >= c.size():
+        return 11
+    # "end below start or not below size, at its second byte"
+    if p.awaited == END_LOW and (p.end + b < p.start or p.end + b >= c.size()):
+        return 12
+    # "At 13: 8, 9, 10, 6, 7."
+    if p.awaited == CHECK and b != POSTAMBLE:
+        if b != PREAMBLE:
+            return 8
+        if p.control & B2:
+            return 9
+        if p.device + 1 >= c.count:
+            return 10
+        return begins(c, p.device + 1)
+    return 0
+
+
+def take(c, mem, b):
+    """One byte of an open run: 16 where it goes on, else the number with which it ends. The place stays, for its counts."""
+    p = c.place
+    # "A refused byte counts as taken, closes the run and changes no cell or register"
+    p.taken = (p.taken + 1) % COUNTERS
+    number = refusal(c, b)
+    if number != 0:
+        return number
+    # "At 13: 4D accepts"
+    if p.awaited == CHECK and b == POSTAMBLE:
+        return 0
+    if p.awaited == PREAMBLE_1 and p.mode == 6:
+        p.awaited = PREAMBLE_2
+    elif p.awaited in (PREAMBLE_1, PREAMBLE_2):
+        begin(c, 0)
+    elif p.awaited == CONTROL:
+        # "In a write the control byte is loaded when taken." "A check loads no register."
+        if not p.check:
+            c.registers[p.device] = b
+        p.control = b
+        p.awaited = ADDRESS_1
+    elif p.awaited in (ADDRESS_1, ADDRESS_2, ADDRESS_3):
+        p.awaited += 1
+    elif p.awaited == COUNT:
+        # "the ones' complement of the number of windows"; "No windows: 6 goes to 13. Otherwise 7"
+        p.left = b ^ 0xFF
+        p.awaited = NULL if p.left else CHECK
+    elif p.awaited == NULL:
+        p.awaited = START_HIGH
+    elif p.awaited == START_HIGH:
+        p.start = 256 * b
+        p.awaited = START_LOW
+    elif p.awaited == START_LOW:
+        p.start += b
+        p.awaited = END_HIGH
+    elif p.awaited == END_HIGH:
+        p.end = 256 * b
+        p.awaited = END_LOW
+    elif p.awaited == END_LOW:
+        p.end += b
+        p.next = p.start
+        p.awaited = DATA
+    elif p.awaited == DATA:
+        # "A write stores the data byte in the cell at once. A check stores nothing, counts data bytes that differ from their cells"
+        cell = c.base(p.device) + p.next
+        if not p.check:
+            mem[cell] = b
+        elif mem[cell] != b:
+            p.mismatches = (p.mismatches + 1) % COUNTERS
+        # "A window covers start to end inclusive"; "after each window 7 again or 13"
+        if p.next == p.end:
+            p.start = p.end = p.next = 0
+            p.left -= 1
+            p.awaited = NULL if p.left else CHECK
+        else:
+            p.next += 1
+    else:
+        # "B2 begins the next device at 2"
+        begin(c, p.device + 1)
+    return GOES_ON
+
+
+def feed(c, mem, s):
+    """ "A whole-slice call feeds an open run and stops at its end; later bytes are not looked at." Answers number, bytes taken, mismatches,
+    state and memory. """
+    number = open_number(c, mem)
+    if number != 0:
+        return number, 0, 0, c, mem
+    c, mem = deepcopy(c), bytearray(mem)
+    number = GOES_ON
+    for b in s:
+        number = take(c, mem, b)
+        if number != GOES_ON:
+            break
+    counts = c.place.taken, c.place.mismatches
+    if number != GOES_ON:
+        c.place = Place()
+    return number, *counts, c, bytes(mem)
+
+
+def byte(c, mem, b):
+    """ "A byte call is a slice of one." """
+    return feed(c, mem, bytes([b]))
+
+
+# ---- Outputs
+
+
+def put(out, s):
+    """15: "output .. shorter than needed". "on 0 only the needed front part is written and its length answered (0 otherwise)" """
+    if len(out) < len(s):
+        return 15, 0, out
+    return 0, len(s), bytes(s) + bytes(out[len(s) :])
+
+
+# ---- Closing bytes
+
+
+def closing_bytes(c, mem):
+    """ "By awaited byte, with size that of the current device" """
+    p, size = c.place, c.size()
+    cells = mem[c.base(p.device) :][:size]
+    # "Tail: 00 FF FF if windows remain after this one, else 4D."
+    tail = [0x00, 0xFF, 0xFF] if p.left > 1 else [POSTAMBLE]
+    # "0, 1: 00. 2: stored register, 00 00 00 FF 4D. 3 to 5: the missing address bytes as 00, then FF 4D. 6: FF 4D. 13: 4D."
+    if p.awaited in (PREAMBLE_1, PREAMBLE_2):
+        return [0x00]
+    if p.awaited == CONTROL:
+        return [c.stored(), 0x00, 0x00, 0x00, 0xFF, POSTAMBLE]
+    if p.awaited in (ADDRESS_1, ADDRESS_2, ADDRESS_3):
+        return [0x00] * (COUNT - p.awaited) + [0xFF, POSTAMBLE]
+    if p.awaited == COUNT:
+        return [0xFF, POSTAMBLE]
+    if p.awaited == CHECK:
+        return [POSTAMBLE]
+    # "7: 00 FF FF. 8: FF FF. 9: FF, then FF FF if that start is below size. 10: FF FF."
+    if p.awaited == NULL:
+        return [0x00, 0xFF, 0xFF]
+    if p.awaited == START_HIGH:
+        return [0xFF, 0xFF]
+    if p.awaited == START_LOW:
+        return [0xFF] + ([0xFF, 0xFF] if p.start + 255 < size else [])
+    if p.awaited == END_HIGH:
+        return [0xFF, 0xFF]
+    if p.awaited == END_LOW:
+        # "11, with end high byte h: FF if 256h + 255 is not below size or is below start."
+        h = p.end // 256
+        if 256 * h + 255 >= size or 256 * h + 255 < p.start:
+            return [0xFF]
+        # "Otherwise the start's low byte if h is the start's high byte, else 00; then the window's present cells, then the tail."
+        low = p.start % 256 if h == p.start // 256 else 0x00
+        return [low, *cells[p.start : 256 * h + low + 1], *tail]
+    # "12: present values of the remaining cells, then the tail."
+    return [*cells[p.next : p.end + 1], *tail]
+
+
+def closing(c, mem, out):
+    """ "Closing and save: 4, 15." "They are written, not fed. A stopped check closes likewise." """
+    number = open_number(c, mem)
+    return (number, 0, out) if number else put(out, closing_bytes(c, mem))
+
+
+# ---- Saved place, 27 bytes
+
+# "Bit-packed fields, most significant first": name and width
+FIELDS = [("form", 4), ("mode", 3), ("check", 1), ("device", 3), ("awaited", 4), ("zero", 1), ("left", 8), ("zeros", 8), ("start", 16), ("end", 16)]
+FIELDS += [("next", 16), ("taken", 32), ("mismatches", 32)] + [(f"register {i}", 8) for i in range(8)] + [("control", 8)]
+SAVED = sum(width for _, width in FIELDS) // 8
+
+
+def packed(values):
+    bits = "".join(format(values[name], f"0{width}b") for name, width in FIELDS)
+    return bytes(int(bits[i : i + 8], 2) for i in range(0, len(bits), 8))
+
+
+def unpacked(saved):
+    bits, values = "".join(format(b, "08b") for b in saved), {}
+    for name, width in FIELDS:
+        values[name], bits = int(bits[:width], 2), bits[width:]
+    return values
+
+
+def saved_of(c):
+    values = {"form": 1, "zero": 0, "zeros": 0} | {f"register {i}": r for i, r in enumerate(c.registers)}
+    return packed({name: values[name] if name in values else getattr(c.place, name) for name, _ in FIELDS})
+
+
+def save(c, mem, out):
+    """ "Saving leaves the run open." """
+    number = open_number(c, mem)
+    return (number, 0, out) if number else put(out, saved_of(c))
+
+
+def pick_up(c, mem, saved):
+    """ "Pick-up: after the state's own, 3, then 17 for the place." "gives the state saved, registers included" """
+    number = state_number(c, mem)
+    if number == 0 and c.place.running:
+        number = 3
+    if number != 0:
+        return number, c
+    # "Well formed: length 27, form 1, zero bits 0"
+    if len(saved) != SAVED:
+        return 17, c
+    values = unpacked(saved)
+    if values["form"] != 1 or values["zero"] != 0 or values["zeros"] != 0:
+        return 17, c
+    place = Place(running=1, **{name: values[name] for name in vars(Place()) if name in values})
+    registers = [values[f"register {i}"] for i in range(8)]
+    if not well_formed(c, registers, place):
+        return 17, c
+    return 0, Chain(c.count, list(c.kinds), registers, place)
+
+
+# ---- The hunt
+
+
+def hunt(s, out):
+    """ "the first bit position p, 0 to 64, where eight bits make B2. It writes the whole bytes that start at p into a lent output and drops a
+    last part byte." "Hunt: 5, 15." """
+    bits = [b >> i & 1 for b in s for i in range(8)]  # "each byte least significant bit first"
+
+    def byte_at(p):
+        return sum(bits[p + i] << i for i in range(8))
+
+    for p in range(65):
+        if p + 8 <= len(bits) and byte_at(p) == PREAMBLE:
+            return put(out, [byte_at(q) for q in range(p, len(bits) - 7, 8)])
+    return 5, 0, out
+
+
+# ---- Writer and lister
+
+
+def write(kind, mode, control, address, starts, ends, data, out):
+    """ "Writer: kind (1), mode, 13, then window by window 11, 12, then 14, 15." """
+    if kind not in SIZES:
+        return 1, 0, out
+    if not 1 <= mode <= 6:
+        return 2, 0, out
+    # 13: "start and end tables differ in length or exceed 255"
+    if len(starts) != len(ends) or len(starts) > 255:
+        return 13, 0, out
+    size = SIZES[kind]
+    for s, e in zip(starts, ends):
+        if s >= size:
+            return 11, 0, out
+        if e < s or e >= size:
+            return 12, 0, out
+    # 14: "data length is not the sum of the windows"
+    if len(data) != sum(e - s + 1 for s, e in zip(starts, ends)):
+        return 14, 0, out
+    # "Its lead-in is B2 in modes 1, 2, 5; 00 B2 in 3, 4; B2 B2 in 6. Null bytes are 00."
+    stream = [PREAMBLE] if mode in (1, 2, 5) else [0x00, PREAMBLE] if mode in (3, 4) else [PREAMBLE, PREAMBLE]
+    stream += [control, *address, len(starts) ^ 0xFF]
+    at = 0
+    for s, e in zip(starts, ends):
+        stream += [0x00, s // 256, s % 256, e // 256, e % 256, *data[at : at + e - s + 1]]
+        at += e - s + 1
+    return put(out, stream + [POSTAMBLE])
+
+
+def put_table(table, values):
+    return values + table[len(values) :]
+
+
+def list_windows(kind, mode, s, starts, ends, offsets):
+    """ "Lister: kind (1), mode, the stream's own number, then 15." Answers number, windows, control byte, external address, bytes taken and
+    the three tables. """
+    if kind not in SIZES:
+        return 1, 0, 0, [0, 0, 0], 0, starts, ends, offsets
+    if not 1 <= mode <= 6:
+        return 2, 0, 0, [0, 0, 0], 0, starts, ends, offsets
+    # "for one freshly reset device": its machine is fed, and what it takes is noted
+    mem = bytearray(SIZES[kind])
+    _, c = start(Chain(1, [kind] + [0] * 7), mem, mode, 0)
+    preamble, control, address, windows, number = 0, 0, [], [], GOES_ON
+    for i, b in enumerate(s):
+        awaited = c.place.awaited
+        number = take(c, mem, b)
+        # "data offsets (32 bits, from the preamble that precedes the control byte, which has offset 0)"
+        if awaited == CONTROL:
+            preamble, control = i - 1, b
+        elif awaited in (ADDRESS_1, ADDRESS_2, ADDRESS_3):
+            address.append(b)
+        elif awaited == END_LOW and number == GOES_ON:
+            windows.append((c.place.start, c.place.end, i + 1 - preamble))
+        if number != GOES_ON:
+            break
+    taken = c.place.taken
+    if number == 0 and min(len(starts), len(ends), len(offsets)) < len(windows):
+        number = 15
+    if number != 0:
+        return number, 0, 0, [0, 0, 0], taken, starts, ends, offsets
+    tables = [put_table(t, [w[i] for w in windows]) for i, t in enumerate((starts, ends, offsets))]
+    return 0, len(windows), control, address, taken, *tables

@@ -1,0 +1,1363 @@
+"""The cases of document 01 other than the twelve that are proved: what the program `cases` is given, and what it must print.
+
+    python3 tests/model/cases.py            writes crates/cases/stdin (the script) and crates/cases/stdout (what must be printed)
+    python3 tests/model/cases.py --check    works both out again and compares them with the files
+
+Each case cites the sentence of document 01 (or of the maker's guide) that it tries. Every call below says by hand which number it must give, and
+often which bytes; the model (at6000.py) has to agree, and gives the rest of the line: the whole state, what was written into the output and which
+cells of memory changed. No expected value is taken from a run of the program.
+
+The script is a list of calls, each sixteen bytes and its arguments: letter, a, b, c, the lengths of the memory and the output that are lent (three bytes
+each), of two tables and of the arguments (two bytes each), high byte first. A line printed is the letter and the answers in hex:
+
+    # text                         a comment
+    m                              memory filled with a, a + b, a + 2b ..
+    = state                        a state that the caller makes up
+    n, r, s, p   number state      new, reset, start, pick-up
+    b, f   number taken mismatches state      byte, slice
+    c, v, h, w   number length     closing, save, hunt, write
+    l   number windows control address taken starts ends offset ..     list; entries that were not written are ee
+
+A state is count, kinds, registers; running, mode, check, device, awaited, windows left, control; start end next; taken, mismatches. Then come `>address:bytes`
+for each run of bytes written into the output, which held ee, and `@address:bytes` for each run of memory cells that the call changed.
+"""
+
+import sys
+from copy import deepcopy
+from dataclasses import replace
+from pathlib import Path
+
+sys.dont_write_bytecode = True
+import at6000
+from at6000 import B2, B3, B4, POSTAMBLE, PREAMBLE, SIZES, Chain, Place, saved_of
+
+CELLS = 65576  # the program's memory: enough for a chain that is refused for its total alone
+LENT = 0xEE
+
+
+def bytes_of(s):
+    """Bytes, or their hex digits."""
+    return bytes.fromhex(s) if isinstance(s, str) else bytes(s)
+
+
+def eight(values):
+    return list(values) + [0] * (8 - len(values))
+
+
+def chain_bytes(c):
+    p = c.place
+    head = [c.count, *c.kinds, *c.registers, p.running, p.mode, p.check, p.device, p.awaited, p.left, p.control]
+    words = b"".join(n.to_bytes(2, "big") for n in (p.start, p.end, p.next))
+    return bytes(head) + words + p.taken.to_bytes(4, "big") + p.mismatches.to_bytes(4, "big")
+
+
+def shown(c):
+    s = chain_bytes(c).hex()
+    parts, at = [], 0
+    for n in (1, 8, 8, 7, 6, 4, 4):
+        parts.append(s[2 * at : 2 * (at + n)])
+        at += n
+    return " " + " ".join(parts)
+
+
+def changes(mark, now, was):
+    text, i = "", 0
+    while i < len(now):
+        j = i
+        while j < len(now) and now[j] != was[j]:
+            j += 1
+        if j > i:
+            text += f" {mark}{i:06x}:{now[i:j].hex()}"
+        i = max(j, i + 1)
+    return text
+
+
+class Script:
+    """The script so far, with the state and the memory that the model has reached. Each call's first argument is the number it must give."""
+
+    def __init__(self):
+        self.stdin, self.stdout, self.calls, self.given = bytearray(), [], 0, set()
+        self.c, self.mem = Chain(), bytes(CELLS)
+
+    # ---- lines
+
+    def line(self, letter, text="", args=b"", a=0, b=0, c=0, mem=0, out=0, starts=0, ends=0):
+        head = bytes([ord(letter), a, b, c]) + mem.to_bytes(3, "big") + out.to_bytes(3, "big")
+        self.stdin += head + b"".join(n.to_bytes(2, "big") for n in (starts, ends, len(args))) + bytes(args)
+        self.stdout.append(letter + text)
+        if letter not in "#m=":
+            self.calls += 1
+            self.given.add((letter, int(text[1:3], 16)))
+
+    def agree(self, number, got):
+        if number != got:
+            raise SystemExit(f"after {[t for t in self.stdout if t[0] == '#'][-1]}: {number} said by hand, {got} by the model")
+
+    def lent(self, length):
+        """The memory lent: as long as the chain's, unless said."""
+        if length is None:
+            length = self.c.base(self.c.count)
+        return self.mem[:length]
+
+    def stored(self, mem):
+        text = changes("@", mem, self.mem)
+        self.mem = bytes(mem) + self.mem[len(mem) :]
+        return text
+
+    def say(self, text):
+        self.line("#", " " + text, (" " + text).encode())
+
+    def fill(self, a, b=0, length=CELLS):
+        self.mem = bytes((a + b * i) % 256 for i in range(length)) + self.mem[length:]
+        self.line("m", a=a, b=b, mem=length)
+
+    def state(self, c):
+        self.c = deepcopy(c)
+        self.line("=", shown(c), chain_bytes(c))
+
+    # ---- calls on a state
+
+    def new(self, number, count, kinds, lent=None):
+        kinds = eight(kinds)
+        mem = self.mem[: sum(SIZES.get(k, 0) for k in kinds[:count]) if lent is None else lent]
+        got, self.c = at6000.new(count, kinds, mem)
+        self.agree(number, got)
+        self.line("n", f" {got:02x}{shown(self.c)}", kinds, a=count, mem=len(mem))
+
+    def reset(self, number, lent=None):
+        mem = self.lent(lent)
+        got, self.c, after = at6000.reset(self.c, mem)
+        self.agree(number, got)
+        self.line("r", f" {got:02x}{shown(self.c)}{self.stored(after)}", mem=len(mem))
+
+    def start(self, number, mode, check=0, lent=None):
+        mem = self.lent(lent)
+        got, self.c = at6000.start(self.c, mem, mode, check)
+        self.agree(number, got)
+        self.line("s", f" {got:02x}{shown(self.c)}", a=mode, b=check, mem=len(mem))
+
+    def fed(self, letter, want, got, **args):
+        number, taken, mismatches, self.c, after = got
+        self.agree(want, (number, taken, mismatches)[: len(want)])
+        self.line(letter, f" {number:02x} {taken:08x} {mismatches:08x}{shown(self.c)}{self.stored(after)}", mem=len(after), **args)
+
+    def byte(self, number, b, *counts, lent=None):
+        self.fed("b", (number, *counts), at6000.byte(self.c, self.lent(lent), b), a=b)
+
+    def feed(self, number, s, *counts, lent=None):
+        """A slice; counts are bytes taken and mismatches, where they are said."""
+        s = bytes_of(s)
+        self.fed("f", (number, *counts), at6000.feed(self.c, self.lent(lent), s), args=s)
+
+    def pick_up(self, number, saved, lent=None):
+        saved, mem = bytes_of(saved), self.lent(lent)
+        got, self.c = at6000.pick_up(self.c, mem, saved)
+        self.agree(number, got)
+        self.line("p", f" {got:02x}{shown(self.c)}", saved, mem=len(mem))
+
+    # ---- calls with an output
+
+    def written(self, letter, number, want, got, room, **args):
+        """`room` is the length of the output lent, `want` the bytes it must hold in front, where they are said."""
+        n, length, out = got
+        self.agree(number, n)
+        if want is not None:
+            self.agree(bytes_of(want), out[:length])
+        self.line(letter, f" {n:02x} {length:08x}{changes('>', out, self.blank(room))}", out=room, **args)
+        return out[:length]
+
+    def blank(self, room):
+        return bytes([LENT]) * room
+
+    def closing(self, number, want=None, room=80, lent=None):
+        mem = self.lent(lent)
+        return self.written("c", number, want, at6000.closing(self.c, mem, self.blank(room)), room, mem=len(mem))
+
+    def save(self, number, want=None, room=27, lent=None):
+        mem = self.lent(lent)
+        return self.written("v", number, want, at6000.save(self.c, mem, self.blank(room)), room, mem=len(mem))
+
+    def hunt(self, number, s, want=None, room=80):
+        s = bytes_of(s)
+        return self.written("h", number, want, at6000.hunt(s, self.blank(room)), room, args=s)
+
+    def write(self, number, kind, mode, control, address, starts, ends, data, want=None, room=80):
+        address, data = bytes_of(address), bytes_of(data)
+        got = at6000.write(kind, mode, control, list(address), starts, ends, data, self.blank(room))
+        args = address + b"".join(n.to_bytes(2, "big") for n in starts + ends) + data
+        return self.written("w", number, want, got, room, args=args, a=kind, b=mode, c=control, starts=len(starts), ends=len(ends))
+
+    def list(self, number, kind, mode, s, want=None, tables=(4, 4, 4)):
+        """`want` is windows, control byte, address and bytes taken, then the windows as start, end, offset, where they are said."""
+        s, (i, j, k) = bytes_of(s), tables
+        word, long = LENT * 0x101, LENT * 0x1010101
+        got, windows, control, address, taken, starts, ends, offsets = at6000.list_windows(kind, mode, s, [word] * i, [word] * j, [long] * k)
+        self.agree(number, got)
+        if want is not None:
+            rows = list(zip(starts, ends, offsets))[:windows]
+            self.agree(want, (windows, control, bytes(address).hex(), taken, *rows)[: len(want)])
+        table = [" " + "".join(f"{n:04x}" for n in t) for t in (starts, ends)] + [f" {n:08x}" for n in offsets]
+        text = f" {got:02x} {windows:02x} {control:02x} {bytes(address).hex()} {taken:08x}{''.join(table)}"
+        self.line("l", text, s, a=kind, b=mode, out=k, starts=i, ends=j)
+
+
+# ---- Streams
+
+
+def window(start, end, data, null=0x00):
+    data = bytes_of(data)
+    assert len(data) == end - start + 1
+    return bytes([null, start // 256, start % 256, end // 256, end % 256]) + data
+
+
+def section(windows, control=0x00, address="000000"):
+    return bytes([control]) + bytes_of(address) + bytes([0xFF - len(windows)]) + b"".join(windows)
+
+
+def stream(*sections, lead="B2"):
+    """ "At 13: 4D accepts; B2 begins the next device at 2" """
+    return bytes_of(lead) + bytes([PREAMBLE]).join(sections) + bytes([POSTAMBLE])
+
+
+A = bytes.fromhex("B2 00 00 00 00 FE 00 00 09 00 0B 11 22 33 4D")
+EMPTY = bytes.fromhex("B2 00 00 00 00 FF 4D")
+
+
+def load(s, control=0x00, *more):
+    """A run that stores these registers, device by device, and no cell."""
+    s.start(0, 1)
+    s.feed(0, stream(*[section([], c) for c in (control, *more)]))
+
+
+# ---- The cases
+
+
+def cases_new(s):
+    s.say("new, 0: 'A new state is made from a count and eight kinds .. with zero registers and no open run. It leaves memory as lent'")
+    s.fill(0x5A)
+    for kind in SIZES:
+        s.new(0, 1, [kind])
+    s.new(0, 2, [0, 0])
+    s.new(0, 8, [0] * 8)
+    s.new(0, 8, [2, 0, 3, 0, 5, 0, 10, 0])
+    s.say("new, 0: 'those past the count taken as zero', unknown ones too")
+    s.new(0, 1, [0, 1, 2, 3, 4, 5, 10, 255])
+    s.new(0, 7, [0, 0, 0, 0, 0, 0, 2, 99])
+    s.say("new, 0: 'at most 65,536 bytes in all': the largest total that kinds can make is 65,524")
+    s.new(0, 4, [10, 10, 10, 10])
+    s.say("new, 1: 'count not 1 to 8'; 'refused, it is all zero'")
+    s.new(1, 0, [0] * 8, lent=0)
+    s.new(1, 0, [0] * 8, lent=52)
+    for count in (9, 10, 128, 255):
+        s.new(1, count, [0] * 8, lent=416)
+        s.new(1, count, [0] * 8, lent=52 * count)
+    s.say("new, 1: 'unknown kind', at the first and at the last device")
+    for kind in (1, 4, 6, 7, 8, 9, 11, 128, 255):
+        s.new(1, 1, [kind], lent=0)
+        s.new(1, 1, [kind], lent=52)
+    s.new(1, 8, [0] * 7 + [1], lent=416)
+    s.new(1, 8, [0] * 7 + [1], lent=364)
+    s.say("new, 1: 'total over 65,536', with memory as long as that total: 65,542 and 65,576")
+    s.new(1, 7, [0, 3, 3, 5, 10, 10, 10])
+    s.new(1, 5, [10, 10, 10, 10, 0])
+    s.new(1, 5, [10, 10, 10, 10, 0], lent=65536)
+    s.say("new, 1: 'lent memory of another length': a cell short, a cell over, none")
+    s.new(0, 2, [0, 2])
+    for length in (2716, 2718, 52, 0, 65536):
+        s.new(1, 2, [0, 2], lent=length)
+
+
+def cases_reset(s):
+    s.say("reset, 0: 'it zeroes memory, all registers and unused kinds and closes the run'; no run open")
+    s.new(0, 2, [0, 0])
+    s.fill(0x01, 0x03)
+    load(s, 0x10, 0xFF)
+    s.reset(0)
+    s.say("reset, 0: 'Reset (mode 0) is taken even with a run open'")
+    s.fill(0x01, 0x03)
+    load(s, 0x01, 0x02)
+    s.start(0, 1)
+    s.feed(16, A[:13])
+    s.reset(0)
+    s.start(0, 6, 1)
+    s.reset(0)
+    s.say("reset, 0: 'a lent state (reset excepted)': unused kinds or registers not zero, an open place not well formed")
+    for c in (
+        Chain(1, [0, 7, 1, 2, 3, 4, 5, 10], [0xFF] * 8),
+        Chain(1, [0] * 8, [1, 0, 0, 0, 0, 0, 0, 1]),
+        Chain(1, [0] * 8, [0x10] + [0] * 7, Place(1, 9, 9, 200, 77, 5, 4, 3, 2, 1, 9, 9)),
+        Chain(1, [0] * 8, [0] * 8, Place(running=2)),
+        Chain(1, [0] * 8, [0] * 8, Place(running=255, mode=1)),
+    ):
+        s.state(c)
+        s.start(17, 1)
+        s.reset(0)
+    s.say("reset, 0: a closed place with other fields not zero comes back zero")
+    s.state(Chain(1, [0] * 8, [0] * 8, Place(0, 1, 2, 3, 4, 5, 6, 7, 8, 9, 10, 11)))
+    s.reset(0)
+    s.say("reset, 1: state and memory as lent, with a run open too")
+    s.fill(0x01, 0x03)
+    s.new(0, 2, [0, 0])
+    load(s, 0x01, 0x02)
+    s.start(0, 1)
+    for length in (103, 105, 0):
+        s.reset(1, lent=length)
+    for c in (Chain(0), Chain(1, eight([1])), Chain(8, [0] * 7 + [6], [1] * 8, Place(running=3))):
+        s.state(c)
+        s.reset(1, lent=52)
+    for count in (0, 9, 255):
+        s.state(Chain(count))
+        s.reset(1, lent=52 * min(count, 8))
+    s.state(Chain(5, eight([10, 10, 10, 10, 0]), [0] * 8))
+    s.reset(1)
+    s.say("reset, 1 looks at the first count kinds only")
+    s.state(Chain(1, [0] + [1] * 7))
+    s.reset(0)
+
+
+def cases_start(s):
+    s.say("start, 0: modes 1 to 6, a write and a check; 'start sets both to zero'")
+    s.new(0, 2, [0, 2])
+    load(s, 0x01, 0x02)
+    for mode in range(1, 7):
+        for check in (0, 1):
+            s.start(0, mode, check)
+            s.feed(16, "")
+            s.feed(5, "00", 1, 0)
+    s.say("start, 0: any other check than 0 is a check")
+    for check in (2, 128, 255):
+        s.start(0, 1, check)
+        s.byte(5, 0x00)
+    s.say("start, 0: the other fields of a closed place are no part of the state")
+    junk = Chain(1, [0] * 8, [0] * 8, Place(0, 9, 8, 7, 99, 5, 4, 300, 200, 100, 77, 66))
+    s.state(junk)
+    s.start(0, 2)
+    s.say("start, 2: 'with a mode not 1 to 6'; mode 0 is reset's; nothing changes, a closed place's other fields neither")
+    s.state(junk)
+    for mode in (0, 7, 8, 128, 255):
+        s.start(2, mode)
+    s.say("start, 1: 'lent memory of another length' and the rest of number 1")
+    for length in (51, 53, 0):
+        s.start(1, 1, lent=length)
+    for c, length in ((Chain(0), 0), (Chain(9), 416), (Chain(1, eight([4])), 52)):
+        s.state(c)
+        s.start(1, 1, lent=length)
+    s.state(Chain(5, eight([10, 10, 10, 10, 0])))
+    s.start(1, 1)
+    s.say("start, 17: 'unused kinds or registers are not zero'; an unused kind is 17 whether it is known or not")
+    for c in (Chain(1, [0, 2] + [0] * 6), Chain(1, [0] * 7 + [1]), Chain(2, [0] * 8, [0, 0, 1] + [0] * 5), Chain(7, [0] * 8, [0] * 7 + [0x80])):
+        s.state(c)
+        s.start(17, 1)
+    s.say("start, 3: 'while a run is open'")
+    s.new(0, 1, [0])
+    s.start(0, 1)
+    s.start(3, 1)
+    s.feed(16, A[:8])
+    s.start(3, 6, 1)
+    s.feed(0, A[8:], 15, 0)
+    s.say("'Order: 1, 17 for the state, 2, 3': 2 with a run open, 17 before 2, 1 before 17")
+    s.start(0, 1)
+    s.start(2, 7)
+    s.state(Chain(1, [0, 1] + [0] * 6))
+    s.start(17, 7)
+    s.start(1, 7, lent=51)
+
+
+def cases_bytes(s):
+    s.say("byte, 16 and 0: 'A byte call is a slice of one'; stream A, every byte, with the place after each")
+    s.new(0, 1, [0])
+    s.fill(0x40)
+    s.start(0, 1)
+    for i, b in enumerate(A):
+        s.byte(16 if i < 14 else 0, b, i + 1, 0)
+    s.say("slice, 0: 'stops at its end; later bytes are not looked at'")
+    s.fill(0x40)
+    s.start(0, 1)
+    s.feed(0, A + A + b"\x00", 15, 0)
+    s.say("slice, 16: 'slice used up, run still open'; an empty slice too, and in pieces of any length")
+    s.start(0, 1)
+    s.feed(16, "", 0, 0)
+    for i in range(0, 14, 4):
+        s.feed(16, A[i : i + 4][: 14 - i], min(i + 4, 14), 0)
+    s.feed(16, "", 14, 0)
+    s.feed(0, A[14:], 15, 0)
+    s.say("byte, slice, 4: 'with no run open'; 'Both answer .. 0 and 0 where 1, 17 or 4 is given'")
+    s.byte(4, PREAMBLE, 0, 0)
+    s.feed(4, A, 0, 0)
+    s.feed(4, "", 0, 0)
+    s.say("byte, slice, 1: before all else, with a run open and with none; 0 and 0")
+    for opened in (0, 1):
+        if opened:
+            s.start(0, 1)
+            s.feed(16, A[:13], 13, 0)
+        for length in (51, 53, 0):
+            s.byte(1, 0x33, 0, 0, lent=length)
+            s.feed(1, A[13:], 0, 0, lent=length)
+            s.feed(1, "", 0, 0, lent=length)
+    s.feed(0, A[13:], 15, 0)
+    for c, length in ((Chain(0), 0), (Chain(9), 416), (Chain(1, eight([1])), 52)):
+        s.state(replace(c, place=Place(1, 1)))
+        s.byte(1, PREAMBLE, 0, 0, lent=length)
+        s.feed(1, A, 0, 0, lent=length)
+    s.say("byte, slice, 17: unused kinds, unused registers, with a run open and with none (17 comes before 4)")
+    for c in (Chain(1, [0, 0, 2] + [0] * 5), Chain(1, registers=[0] * 7 + [4])):
+        for p in (Place(), Place(1, 1)):
+            s.state(replace(c, place=p))
+            s.byte(17, PREAMBLE, 0, 0)
+            s.feed(17, A, 0, 0)
+            s.feed(17, "", 0, 0)
+
+
+def cases_preamble(s):
+    s.say("5: 'awaited 0 or 1 and not B2'; 'A refused byte counts as taken, closes the run'")
+    s.new(0, 1, [0])
+    s.fill(0x40)
+    for b in (0x00, 0x4D, 0xB1, 0xB3, 0xFF, 0x32):
+        for mode in (1, 3, 6):
+            s.start(0, mode)
+            s.byte(5, b, 1, 0)
+            s.start(0, mode, 1)
+            s.feed(5, bytes([b]) + A, 1, 0)
+        s.start(0, 6)
+        s.feed(5, bytes([PREAMBLE, b]) + A, 2, 0)
+        s.start(0, 6, 1)
+        s.feed(16, "B2")
+        s.byte(5, b, 2, 0)
+    s.say("5 in modes 3 and 4: the machine is fed the hunted bytes, a lead-in 00 is not one of them")
+    s.start(0, 3)
+    s.feed(5, b"\x00" + A, 1, 0)
+    s.say("'1 second preamble (mode 6 only)': B2 B2 in mode 6; in the others the second B2 is the control byte")
+    for mode in range(1, 7):
+        s.reset(0)
+        s.start(0, mode)
+        s.feed(0, (b"\xb2" if mode == 6 else b"") + A, 15 + (mode == 6), 0)
+    s.reset(0)
+    s.start(0, 1)
+    s.feed(16, "B2 B2", 2, 0)
+    s.reset(0)
+    s.say("6: 'B2 that would begin a device (in mode 6 the second) whose stored B4 is set', in a write and in a check, in every mode")
+    load(s, 0x10)
+    for mode in range(1, 7):
+        for check in (0, 1):
+            s.start(0, mode, check)
+            if mode == 6:
+                s.byte(16, PREAMBLE, 1, 0)
+            s.feed(6, A, 1 + (mode == 6), 0)
+    s.say("7: 'check, and that device's stored B3 is set', in every mode; a write is taken")
+    s.reset(0)
+    load(s, 0x08)
+    for mode in range(1, 7):
+        s.start(0, mode, 1)
+        if mode == 6:
+            s.byte(16, PREAMBLE, 1, 0)
+        s.feed(7, A, 1 + (mode == 6), 0)
+    s.start(0, 1)
+    s.feed(0, stream(section([window(9, 11, "112233")], 0x08)))
+    s.say("'At a preamble: 5, 6, 7': B4 and B3 stored, a check: 5, then 6")
+    s.reset(0)
+    load(s, 0x18)
+    s.start(0, 1, 1)
+    s.byte(5, 0x4D)
+    s.start(0, 1, 1)
+    s.byte(6, PREAMBLE)
+
+
+def cases_control(s):
+    s.say("'In a write the control byte is loaded when taken.' 'The register keeps all eight bits.'")
+    s.new(0, 1, [0])
+    s.fill(0x40)
+    for control in (0x00, 0x01, 0x02, 0x04, 0x08, 0x20, 0x40, 0x80, 0xEF):
+        s.start(0, 1)
+        s.feed(16, bytes([PREAMBLE, control]))
+        s.feed(0, stream(section([], control))[2:], 7, 0)
+    s.say("'B4 bars later runs, not this one'")
+    s.start(0, 1)
+    s.feed(0, stream(section([window(3, 4, "A1A2")], 0xFF)), 14, 0)
+    s.start(0, 1)
+    s.feed(6, A, 1, 0)
+    s.say("'B4 can only be reset by powering down or soft rebooting the device' (the guide)")
+    s.reset(0)
+    s.start(0, 1)
+    s.feed(0, A, 15, 0)
+    s.say("7: 'check .. or the control byte sets B3', at the control byte; 'A check loads no register'")
+    s.fill(0x40)
+    for control in (0x08, 0xFF, 0x1C):
+        s.start(0, 1, 1)
+        s.feed(16, "B2", 1, 0)
+        s.byte(7, control, 2, 0)
+        s.start(0, 6, 1)
+        s.feed(7, bytes([PREAMBLE, PREAMBLE, control]) + A, 3, 0)
+    for control in (0x01, 0x10, 0xF7):
+        s.start(0, 1, 1)
+        s.feed(0, stream(section([], control)), 7, 0)
+    s.say("in a write a control byte with B3 is taken")
+    s.start(0, 1)
+    s.feed(0, stream(section([], 0x08)), 7, 0)
+    s.say("the external address is any three bytes; 'low byte first'; nothing of it is kept in the state")
+    s.start(0, 2)
+    s.feed(0, stream(section([], 0x03, "123456")), 7, 0)
+
+
+def cases_windows(s):
+    s.say("'FE is 1, FB is 4, FF is none': counts 0, 1, 4 and 255 (count byte 00)")
+    s.new(0, 1, [0])
+    s.fill(0x40)
+    for n in (0, 1, 4):
+        s.start(0, 1)
+        s.feed(0, stream(section([window(7 * i, 7 * i + 1, [0xA0 + i, 0xB0 + i]) for i in range(n)])))
+    s.start(0, 5)
+    s.feed(0, stream(section([window(i % 52, i % 52, [i]) for i in range(255)])), 6 + 255 * 6 + 1, 0)
+    s.say("'The null byte may have any value'")
+    s.fill(0x40)
+    for null in (0x01, 0x4D, 0xB2, 0xFE, 0xFF):
+        s.start(0, 1)
+        s.feed(0, stream(section([window(1, 1, [null], null), window(2, 2, [null], null ^ 0xFF)])), 19, 0)
+    s.say("'A window covers start to end inclusive': first cell, last cell, whole device")
+    s.fill(0x40)
+    for start, end in ((0, 0), (51, 51), (50, 51), (0, 51)):
+        s.start(0, 1)
+        s.feed(0, stream(section([window(start, end, range(start, end + 1))])), 13 + end - start, 0)
+    s.say("'A write stores the data byte in the cell at once'")
+    s.fill(0x40)
+    s.start(0, 1)
+    s.feed(16, A[:11])
+    for b in A[11:14]:
+        s.byte(16, b)
+    s.byte(0, 0x4D)
+    s.say("'overlaps follow stream order'")
+    s.start(0, 1)
+    s.feed(0, stream(section([window(5, 8, "01020304"), window(7, 10, "F1F2F3F4"), window(6, 7, "AABB")])), 32, 0)
+    s.say("data bytes may be B2, 4D, FF: only their place counts")
+    s.start(0, 1)
+    s.feed(0, stream(section([window(0, 3, "B24DFF00")])), 16, 0)
+    for kind, size in SIZES.items():
+        s.say(f"11, kind {kind}: 'start not below the device's size, at its second byte'; 12: 'end below start or not below size, at its second byte'")
+        s.new(0, 1, [kind])
+        s.fill(0x40)
+        high, low = (size - 1) // 256, (size - 1) % 256
+        s.start(0, 1)
+        s.feed(0, stream(section([window(size - 1, size - 1, "77")])), 13, 0)
+        for start in (size, size + 1, 0xFFFF):
+            s.start(0, 1)
+            s.feed(16, bytes_of("B2 01 000000 FE 00") + bytes([start // 256]), 8, 0)
+            s.byte(11, start % 256, 9, 0)
+        for start, end in ((0, size), (size - 1, size), (0, 0xFFFF), (9, 8), (size - 1, size - 2), (size - 1, 0)):
+            s.start(0, 1)
+            s.feed(16, bytes_of("B2 02 000000 FE 00") + start.to_bytes(2, "big") + bytes([end // 256]), 10, 0)
+            s.feed(12, bytes([end % 256]) + b"\xaa\xbb", 11, 0)
+        s.start(0, 6, 1)
+        s.feed(11, bytes_of("B2 B2 01 000000 FE 00") + size.to_bytes(2, "big") + A, 10, 0)
+    s.say("'what earlier bytes stored stays': a second window refused, and cells outside the windows untouched")
+    s.new(0, 1, [0])
+    s.fill(0x40)
+    s.start(0, 1)
+    s.feed(11, stream(section([window(9, 11, "112233"), window(52, 52, "44")], 0x81)), 17, 0)
+    s.start(0, 1)
+    s.feed(12, stream(section([window(20, 21, "5152"), bytes_of("00 0014 0013 00")], 0x82)), 18, 0)
+    s.say("a start or an end whose high byte alone is past the size is refused at its second byte, not before")
+    s.start(0, 1)
+    s.feed(16, bytes_of("B2 00 000000 FE 00 FF"), 8, 0)
+    s.byte(11, 0x00, 9, 0)
+    s.start(0, 1)
+    s.feed(16, bytes_of("B2 00 000000 FE 00 0009 FF"), 10, 0)
+    s.byte(12, 0x0B, 11, 0)
+
+
+def cases_check_byte(s):
+    s.say("8: 'check byte neither 4D nor B2'")
+    s.new(0, 2, [0, 0])
+    s.fill(0x40)
+    for b in (0x00, 0x4C, 0x4E, 0xB1, 0xB3, 0xFF, 0xCD):
+        s.start(0, 1)
+        s.feed(8, A[:14] + bytes([b]) + A, 15, 0)
+        s.start(0, 1, 1)
+        s.feed(16, A[:14], 14, 0)
+        s.byte(8, b, 15, 0)
+    s.say("8, control bit B2 set: 'At 13: 8, 9, 10, 6, 7'")
+    s.start(0, 1)
+    s.feed(8, stream(section([], 0x04))[:6] + b"\x00", 7, 0)
+    s.say("9: 'check byte B2, and this device's control byte set B2'; 4D is still accepted")
+    s.start(0, 1)
+    s.feed(9, stream(section([], 0x04), section([])), 7, 0)
+    s.start(0, 1)
+    s.feed(0, stream(section([], 0x04)), 7, 0)
+    s.say("9 in a check 'reads the bit from the stream's control byte': stored set and stream clear goes on, stored clear and stream set is 9")
+    s.start(0, 1, 1)
+    s.feed(0, stream(section([], 0x00), section([], 0x00)), 13, 0)
+    load(s, 0x00)
+    s.start(0, 1, 1)
+    s.feed(9, stream(section([], 0x04), section([], 0x00)), 7, 0)
+    s.say("10: 'check byte B2 after the last device'")
+    s.start(0, 1)
+    s.feed(10, stream(section([]), section([], 0x01), section([])), 13, 0)
+    s.say("9 and 10 by a byte call")
+    s.start(0, 1)
+    s.feed(16, stream(section([], 0x04))[:6], 6, 0)
+    s.byte(9, PREAMBLE, 7, 0)
+    s.start(0, 1)
+    s.feed(16, stream(section([]), section([]))[:12], 12, 0)
+    s.byte(10, PREAMBLE, 13, 0)
+    s.say("9 before 10: the last device with control bit B2")
+    s.start(0, 1)
+    s.feed(9, stream(section([]), section([], 0x04), section([])), 13, 0)
+    s.say("6: the next device's stored B4; 9 before 6; a check too; 4D after the first device is accepted")
+    load(s, 0x00, 0x10)
+    for check in (0, 1):
+        s.start(0, 1, check)
+        s.feed(6, stream(section([]), section([])), 7, 0)
+        s.start(0, 1, check)
+        s.feed(9, stream(section([], 0x04), section([])), 7, 0)
+        s.start(0, 1, check)
+        s.feed(0, EMPTY, 7, 0)
+    s.say("7: the next device's stored B3, in a check; 9 before 7; a write goes on")
+    s.reset(0)
+    load(s, 0x00, 0x08)
+    s.start(0, 1, 1)
+    s.feed(7, stream(section([]), section([])), 7, 0)
+    s.start(0, 1, 1)
+    s.feed(9, stream(section([], 0x04), section([])), 7, 0)
+    s.start(0, 1)
+    s.feed(0, stream(section([]), section([], 0x18)), 13, 0)
+    s.say("6 before 7: the next device's stored B4 and B3, in a check")
+    s.start(0, 1, 1)
+    s.feed(6, stream(section([]), section([])), 7, 0)
+    s.say("7: the second device's control byte sets B3, in a check")
+    s.reset(0)
+    s.start(0, 1, 1)
+    s.feed(7, stream(section([]), section([], 0x08)), 8, 0)
+    s.say("a device's own stored B4 that this run has just set does not bar the next one")
+    s.start(0, 1)
+    s.feed(0, stream(section([], 0x10), section([], 0x10)), 13, 0)
+
+
+def cases_check(s):
+    s.say("'A check stores nothing, counts data bytes that differ from their cells, and goes on'; 0: 'a run accepted, with its mismatch count'")
+    s.new(0, 1, [0])
+    s.fill(0x00, 0x01)
+    s.start(0, 1, 1)
+    s.feed(0, stream(section([window(0, 51, range(52))], 0x41)), 64, 0)
+    s.start(0, 1, 1)
+    s.feed(0, stream(section([window(0, 51, [i ^ (i % 3 == 0) for i in range(52)])])), 64, 18)
+    s.start(0, 1, 1)
+    s.feed(0, A, 15, 3)
+    s.say("mismatches are answered so far at every byte, a cell met twice counts twice")
+    s.start(0, 1, 1)
+    for i, (b, mismatches) in enumerate(zip(A, (0,) * 11 + (1, 2, 3, 3))):
+        s.byte(0 if i == 14 else 16, b, i + 1, mismatches)
+    s.start(0, 1, 1)
+    s.feed(0, stream(section([window(1, 1, "FF"), window(1, 1, "FF"), window(1, 1, "01")])), 25, 2)
+    s.say("a check that is refused answers its mismatches too: 8, 11, 12")
+    s.start(0, 1, 1)
+    s.feed(8, A[:14] + b"\x00", 15, 3)
+    s.start(0, 1, 1)
+    s.feed(11, stream(section([window(9, 11, "112233"), window(52, 52, "44")])), 17, 3)
+    s.start(0, 1, 1)
+    s.feed(12, stream(section([window(9, 11, "09220B"), window(11, 51, bytes(41))]))[:17] + b"\x00\x0a", 19, 1)
+    s.say("a check of what a write has stored finds none, of the same stream with one byte other one")
+    s.start(0, 1)
+    s.feed(0, A, 15, 0)
+    s.start(0, 1, 1)
+    s.feed(0, A, 15, 0)
+    s.start(0, 1, 1)
+    s.feed(0, A[:12] + b"\x23" + A[13:], 15, 1)
+    s.say("a whole device of kind 2, checked in pieces that end inside a window")
+    s.new(0, 1, [2])
+    s.fill(0x00, 0x07, 2665)
+    whole = stream(section([window(0, 2664, bytes((7 * i + (i % 1000 == 999)) % 256 for i in range(2665)))]))
+    s.start(0, 1, 1)
+    for i, mismatches in ((1010, 0), (1011, 1), (2010, 1), (2011, 2)):
+        s.feed(16, whole[s.c.place.taken : i], i, mismatches)
+    s.feed(0, whole[2011:], 2677, 2)
+
+
+def cases_guide(s):
+    s.say("the guide's full configuration: 52 cells, data 0 to 51")
+    full = bytes.fromhex("B2 00 00 00 00 FE 00 00 00 00 33") + bytes(range(52)) + b"\x4d"
+    s.new(0, 1, [0])
+    s.fill(0xFF)
+    s.start(0, 1)
+    s.feed(0, full, 64, 0)
+    assert s.mem[:52] == bytes(range(52))
+    s.start(0, 1, 1)
+    s.feed(0, full, 64, 0)
+    s.list(0, 0, 1, full, (1, 0, "000000", 64, (0, 51, 11)))
+    s.write(0, 0, 1, 0x00, "000000", [0], [51], range(52), full, 64)
+    s.say("the guide's partial configuration: windows 9..11, 15..17, 21..23, 45..47, each cell its own number, all others untouched")
+    rows = [(9, 11), (15, 17), (21, 23), (45, 47)]
+    partial = stream(section([window(a, e, range(a, e + 1)) for a, e in rows]))
+    assert partial[:14].hex(" ") == "b2 00 00 00 00 fb 00 00 09 00 0b 09 0a 0b"
+    s.fill(0xFF)
+    s.start(0, 1)
+    s.feed(0, partial, 39, 0)
+    assert s.mem[:52] == bytes(i if any(a <= i <= e for a, e in rows) else 0xFF for i in range(52))
+    s.list(0, 0, 1, partial, (4, 0, "000000", 39, (9, 11, 11), (15, 17, 19), (21, 23, 27), (45, 47, 35)))
+    s.write(0, 0, 1, 0x00, "000000", [a for a, _ in rows], [e for _, e in rows], [i for a, e in rows for i in range(a, e + 1)], partial)
+    s.say("as printed, its end 13 hex for cell 11 makes a window 9..19: document 01 calls it a slip, and the stream runs out")
+    s.start(0, 1)
+    s.feed(16, partial[:10] + b"\x13" + partial[11:], 39, 0)
+
+
+def cases_chains(s):
+    s.say("two devices: 'Its memories lie one after another in one lent buffer'; each section loads its own register and cells")
+    s.new(0, 2, [0, 0])
+    s.fill(0x40)
+    two = stream(section([window(0, 1, "A0A1"), window(51, 51, "AF")], 0x21), section([window(0, 0, "B0"), window(50, 51, "BEBF")], 0x42))
+    s.start(0, 1)
+    s.feed(0, two, 39, 0)
+    s.start(0, 1, 1)
+    s.feed(0, two, 39, 0)
+    s.say("fewer sections than devices: 4D ends the run after any device")
+    s.start(0, 1)
+    s.feed(0, stream(section([window(2, 2, "CC")], 0x01)), 13, 0)
+    s.say("mode 6 with two devices: two B2 before the first, one between them")
+    s.fill(0x40)
+    s.start(0, 6)
+    s.feed(0, b"\xb2" + two, 40, 0)
+    s.say("a second B2 between them is the control byte: what follows is read a byte late, and 32 00 is an end past the size")
+    s.start(0, 6)
+    s.feed(12, b"\xb2" + two[:20] + b"\xb2" + two[20:], 37, 0)
+    s.say("the second device's size is its own: kinds 0 and 2, 2 and 0")
+    s.new(0, 2, [0, 2])
+    s.fill(0x40)
+    s.start(0, 1)
+    s.feed(0, stream(section([window(51, 51, "01")]), section([window(2664, 2664, "02"), window(51, 53, "030405")])), 33, 0)
+    s.start(0, 1)
+    s.feed(11, stream(section([]), section([window(2665, 2665, "02")])), 15, 0)
+    s.new(0, 2, [2, 0])
+    s.fill(0x40)
+    s.start(0, 1)
+    s.feed(0, stream(section([window(2664, 2664, "01")]), section([window(51, 51, "02")])), 25, 0)
+    s.start(0, 1)
+    s.feed(11, stream(section([]), section([window(52, 52, "02")])), 15, 0)
+    for mode in (1, 6):
+        s.say(f"eight devices in mode {mode}, each with a control byte and a cell of its own; a ninth section is 10")
+        s.new(0, 8, [0, 2, 0, 3, 0, 0, 0, 0])
+        s.fill(0x40)
+        sections = [section([window(5 + i, 6 + i, [0xD0 + i, 0xE0 + i])], 0x20 + i - (i & 4)) for i in range(8)]
+        lead = "B2B2" if mode == 6 else "B2"
+        n = len(bytes_of(lead)) + 8 * 13
+        s.start(0, mode)
+        s.feed(0, stream(*sections, lead=lead), n, 0)
+        s.start(0, mode, 1)
+        s.feed(0, stream(*sections, lead=lead), n, 0)
+        s.start(0, mode)
+        s.feed(10, stream(*sections, section([]), lead=lead), n, 0)
+        s.start(0, mode)
+        s.feed(0, stream(*sections[:3], lead=lead), n - 65, 0)
+    s.say("the largest chain: four devices of kind 10; last cell of the last device, and closing there")
+    s.new(0, 4, [10, 10, 10, 10])
+    s.fill(0x01, 0x01)
+    last = stream(section([]), section([]), section([]), section([window(16379, 16380, "7677")], 0x80))
+    s.start(0, 5)
+    s.feed(16, last[:-2], 30, 0)
+    s.closing(0, "F4 4D")
+    s.feed(0, last[-2:], 32, 0)
+    s.say("a whole device of kind 10 in the middle of a chain")
+    s.new(0, 3, [0, 10, 0])
+    s.fill(0x00)
+    s.start(0, 2)
+    whole = section([window(0, 16380, [i % 251 + 1 for i in range(16381)])])
+    s.feed(0, stream(section([]), whole, section([window(0, 0, "99")])), 16411, 0)
+
+
+def stopped(s, mode, check, stored, stopped_stream, k, kind=0):
+    """A run of this stream after k bytes, with memory of many values and this register stored."""
+    s.new(0, 1, [kind])
+    s.fill(0x31, 0x05, SIZES[kind])
+    load(s, stored)
+    s.start(0, mode, check)
+    s.feed(16, stopped_stream[:k], k)
+
+
+def close(s, want, number):
+    """The closing bytes, and that 'they' end the run at their last byte with this number and change no cell and no register."""
+    before = s.mem, list(s.c.registers), s.c.place.taken, s.c.place.mismatches
+    sent = s.closing(0, want, room=3000)
+    assert len(sent) <= s.c.size() + 3
+    s.feed(number, sent, (before[2] + len(sent)) % 2**32, before[3])
+    assert (s.mem, s.c.registers) == before[:2] and not s.c.place.running
+
+
+def cases_closing(s):
+    two = stream(section([window(9, 11, "112233"), window(5, 5, "44", null=0xAA)], 0x81), lead="B2B2")
+    wants = [
+        ("0, 1: 00.", [("00", 5), ("00", 5)]),
+        ("2: stored register, 00 00 00 FF 4D.", [("C3 00 00 00 FF 4D", 0)]),
+        ("3 to 5: the missing address bytes as 00, then FF 4D. 6: FF 4D.", [("00 00 00 FF 4D", 0), ("00 00 FF 4D", 0), ("00 FF 4D", 0), ("FF 4D", 0)]),
+        ("7: 00 FF FF. 8: FF FF. 9: FF", [("00 FF FF", 11), ("FF FF", 11), ("FF", 11)]),
+        ("10: FF FF. 11, with end high byte h: FF if 256h + 255 is not below size", [("FF FF", 12), ("FF", 12)]),
+        ("12: present values of the remaining cells, then the tail. Tail: 00 FF FF if windows remain", [(None, 11), (None, 11), (None, 11)]),
+        ("the second window: 7 to 11 as before", [("00 FF FF", 11), ("FF FF", 11), ("FF", 11), ("FF FF", 12), ("FF", 12)]),
+        ("Tail: .. else 4D. 13: 4D.", [("4A 4D", 0), ("4D", 0)]),
+    ]
+    cells = {(0, 0): "5E 63 68 00 FF FF", (0, 1): "63 68 00 FF FF", (0, 2): "68 00 FF FF"}
+    for check in (0, 1):
+        k = 0
+        for sentence, rows in wants:
+            s.say(f"closing, 0, a {'check' if check else 'write'} in mode 6: '{sentence}'; fed, it ends the run")
+            for i, (want, number) in enumerate(rows):
+                stopped(s, 6, check, 0xC3, two, k)
+                close(s, cells[0, i] if want is None else want, number)
+                k += 1
+        assert k == len(two)
+    big = 2
+    for check in (0, 1):
+        which = "check" if check else "write"
+        s.say(f"closing, 0, kind 2, a {which}: '9: FF, then FF FF if that start is below size': start high 00, 09, then 0A")
+        head = "B2 81 000000 FD 00"
+        for high, want, number in (("00", "FF FF FF", 12), ("09", "FF FF FF", 12), ("0A", "FF", 11), ("FF", "FF", 11)):
+            stopped(s, 1, check, 0x01, bytes_of(head + high), 8, big)
+            close(s, want, number)
+        s.say(f"closing, 0, kind 2, a {which}, 11: 'FF if 256h + 255 is not below size or is below start'")
+        for start, h in (("0105", "00"), ("0200", "01"), ("0105", "0A"), ("0000", "0A"), ("0000", "FF"), ("0A00", "0A"), ("0A68", "09")):
+            stopped(s, 1, check, 0x01, bytes_of(head + start + h), 10, big)
+            close(s, "FF", 12)
+        s.say(f"closing, 0, kind 2, a {which}, 11: 'the start's low byte if h is the start's high byte'; then that cell, then the tail, windows left 2 and 1")
+        for count, tail, number in (("FD", "00 FF FF", 11), ("FE", "4D", 0)):
+            for start, h, cell in (("0105", "01", "4A"), ("01FF", "01", "2C"), ("0000", "00", "31"), ("0900", "09", "31"), ("0903", "09", "40")):
+                stopped(s, 1, check, 0x01, bytes_of(f"B2 81 000000 {count} 00" + start + h), 10, big)
+                close(s, start[2:] + cell + tail, number)
+        s.say(f"closing, 0, kind 2, a {which}, 11: 'else 00; then the window's present cells': 0105..0200, 00FF..0900, 0000..0900")
+        for count, tail, number in (("FD", "00 FF FF", 11), ("FE", "4D", 0)):
+            for start, h in ((0x105, 0x02), (0xFF, 0x09), (0, 0x09)):
+                stopped(s, 1, check, 0x01, bytes_of(f"B2 81 000000 {count} 00 {start:04x} {h:02x}"), 10, big)
+                present = bytes((0x31 + 5 * i) % 256 for i in range(start, 256 * h + 1))
+                close(s, b"\x00" + present + bytes_of(tail), number)
+    s.say("closing, 0: 'At most size + 3 bytes': the whole device awaited, a window after it; the other kinds at 9 and 11")
+    stopped(s, 1, 0, 0x01, bytes_of("B2 81 000000 FD 00 0000 0033"), 11)
+    close(s, bytes((0x31 + 5 * i) % 256 for i in range(52)) + b"\x00\xff\xff", 11)
+    rows = [(3, "0F", "FFFFFF", 12), (3, "10", "FF", 11), (5, "1E", "FFFFFF", 12), (5, "1F", "FF", 11), (10, "3E", "FFFFFF", 12), (10, "3F", "FF", 11)]
+    for kind, high, want, number in rows:
+        stopped(s, 1, 0, 0x01, bytes_of("B2 81 000000 FE 00" + high), 8, kind)
+        close(s, want, number)
+        stopped(s, 1, 0, 0x01, bytes_of("B2 81 000000 FE 00" + high + "00" + high), 10, kind)
+        close(s, None if number == 12 else "FF", 0 if number == 12 else 12)
+    s.say("closing, 0, on the second device: its stored register, its size, its cells")
+    second = stream(section([], 0x41), section([window(9, 11, "112233"), window(5, 5, "44")], 0x42))
+    wants = ["85 00 00 00 FF 4D", "00 00 00 FF 4D", "00 00 FF 4D", "00 FF 4D", "FF 4D", "00 FF FF", "FF FF", "FF", "FF FF", "FF"]
+    wants += ["62 67 6C 00 FF FF", "67 6C 00 FF FF", "6C 00 FF FF", "00 FF FF", "FF FF", "FF", "FF FF", "FF", "4E 4D", "4D"]
+    numbers = [0] * 5 + [11, 11, 11, 12, 12] + [11] * 6 + [12, 12, 0, 0]
+    for check in (0, 1):
+        for k, (want, number) in enumerate(zip(wants, numbers), 7):
+            s.new(0, 2, [0, 0])
+            s.fill(0x31, 0x05, 104)
+            load(s, 0x41, 0x85)
+            s.start(0, 1, check)
+            s.feed(16, second[:k], k)
+            close(s, want, number)
+    s.say("closing, 1, 17, 4: 'Closing and save: 4, 15'; 'Answers other than 0 leave outputs .. unchanged'")
+    s.new(0, 1, [0])
+    s.closing(4)
+    s.closing(4, room=0)
+    s.closing(1, lent=51)
+    s.start(0, 1)
+    s.feed(16, A[:12])
+    s.closing(1, lent=53)
+    s.closing(1, room=0, lent=0)
+    s.state(Chain(1, [0, 2] + [0] * 6))
+    s.closing(17)
+    s.say("closing, 15: 'output .. shorter than needed', by one and by all; exactly enough, and more, where only the front is written")
+    for k in (0, 2, 6, 7, 11, 12, 14):
+        stopped(s, 1, 0, 0x01, A, k)
+        n = len(s.closing(0, room=80))
+        s.closing(15, room=n - 1)
+        s.closing(15, room=0)
+        s.closing(0, room=n)
+    s.say("'They are written, not fed': the run goes on where it was")
+    s.feed(0, A[14:], 15, 0)
+
+
+# "Saved place, 27 bytes" and what is well formed: (sentence, place, registers, well formed)
+
+
+def rows_of_places():
+    """Every sentence of the paragraph with places on both sides of it, for a chain of kinds 0 and 2 and unused registers zero."""
+    base = {12: dict(start=3, next=5, end=9), 11: dict(start=3, end=0), 10: dict(start=3), 9: dict(start=0)}
+
+    def at(awaited, mode=1, check=0, control=0, left=None, **fields):
+        left = (1 if 7 <= awaited <= 12 else 0) if left is None else left
+        return Place(1, mode, check, awaited=awaited, left=left, control=control, **(base.get(awaited, {}) | fields))
+
+    rows = []
+
+    def row(sentence, good, place, registers=()):
+        rows.append((sentence, place, eight(registers), good))
+
+    for awaited in range(14):
+        for check in (0, 1):
+            row("every awaited byte, a write and a check", True, at(awaited, 6, check))
+            if awaited > 1:
+                row("every awaited byte on the second device", True, at(awaited, 6, check, device=1))
+    for mode in range(8):
+        row("mode 1 to 6", 1 <= mode <= 6, at(7, mode))
+    for awaited in (14, 15):
+        row("awaited 0 to 13", False, at(awaited))
+        row("awaited 0 to 13", False, at(awaited, left=1))
+    for device in (2, 7):
+        row("device in the chain", False, at(7, device=device))
+    for i in (2, 7):
+        row("unused registers 0", False, at(7), [0] * i + [1])
+    row("used registers are any", True, at(0), [0xFF, 0xFF])
+    row("mismatches 0 in a write", False, at(7, mismatches=1))
+    row("mismatches 0 in a write", False, at(7, mismatches=2**32 - 1))
+    row("mismatches of a check are any", True, at(7, check=1, mismatches=2**32 - 1))
+    row("taken is any", True, at(0, taken=2**32 - 1))
+    for awaited in (0, 1):
+        row("Awaited 0 and 1 only on device 0", False, at(awaited, 6, device=1))
+    for mode in range(1, 7):
+        row("1 only in mode 6", mode == 6, at(1, mode))
+    for awaited in (0, 1, 2):
+        for check in (0, 1):
+            row("Control byte 0 before it is taken", False, at(awaited, 6, check, control=0x01), [0x01])
+    for awaited in (3, 4, 5, 6, 7, 8, 9, 10, 11, 12, 13):
+        row("after, in a write, equal to the stored register", True, at(awaited, control=0x5A), [0x5A])
+        row("after, in a write, equal to the stored register", False, at(awaited, control=0x5A), [0x5B, 0x5A])
+        row("and in a check with B3 clear", True, at(awaited, check=1, control=0xF7), [0x5A])
+        row("and in a check with B3 clear", False, at(awaited, check=1, control=0x08), [0x08])
+    row("its own device's register", True, at(6, device=1, control=0x5A), [0x00, 0x5A])
+    row("in a write B3 and B4 may be set", True, at(6, control=0xFF), [0xFF])
+    for awaited in (0, 1, 2, 3, 4, 5, 6, 13):
+        for field in ("left", "start", "end", "next"):
+            row("Awaited 0 to 6 and 13: windows, start, end, next 0", False, at(awaited, 6, **{field: 1}))
+    for awaited in range(7, 13):
+        row("7 to 12: windows at least 1", False, at(awaited, left=0))
+        row("7 to 12: windows at least 1", True, at(awaited, left=255))
+    for awaited in (7, 8):
+        for field in ("start", "end", "next"):
+            row("7, 8: start, end, next 0", False, at(awaited, **{field: 256}))
+    row("9: start's low byte 0", False, at(9, start=1))
+    row("9: start's low byte 0", False, at(9, start=0x0101))
+    row("9: start's low byte 0; its high byte is any", True, at(9, start=0xFF00))
+    for awaited, text in ((9, "9: .. end and next 0"), (10, "10: .. end and next 0")):
+        for field in ("end", "next"):
+            row(text, False, at(awaited, **{field: 256}))
+    for awaited in (10, 11):
+        text = f"{awaited}: start below size"
+        for device, size in ((0, 52), (1, 2665)):
+            row(text, True, at(awaited, device=device, start=size - 1))
+            row(text, False, at(awaited, device=device, start=size))
+    row("11: .. end's low byte 0", False, at(11, end=1))
+    row("11: .. end's low byte 0; its high byte is any", True, at(11, end=0xFF00))
+    row("11: .. next 0", False, at(11, next=1))
+    for device, size in ((0, 52), (1, 2665)):
+        last = size - 1
+        for start, cell, end in ((0, 0, 0), (0, 0, last), (last, last, last), (5, 5, 9), (5, 9, 9)):
+            row("12: start <= next <= end < size", True, at(12, device=device, start=start, next=cell, end=end))
+        for start, cell, end in ((5, 4, 9), (5, 10, 9), (9, 7, 5), (0, 0, size), (size, size, size), (0, size, size)):
+            row("12: start <= next <= end < size", False, at(12, device=device, start=start, next=cell, end=end))
+    for device in (0, 1):
+        for check in (0, 1):
+            stored = [0x01] * device
+            row("At 2: stored B4 clear", False, at(2, check=check, device=device), stored + [B4])
+            row("At 2: .. in a check B3 too", not check, at(2, check=check, device=device), stored + [B3])
+            row("At 2: the other bits are any", True, at(2, check=check, device=device), stored + [0xE7])
+    row("At 2: the other devices' registers are any", True, at(2), [0x00, 0xFF])
+    row("after 2: stored B3 and B4 may be set in a check", True, at(3, check=1), [0xFF])
+    return rows
+
+
+def refused(s):
+    """17 from every call but reset, which is taken."""
+    s.start(17, 1)
+    s.byte(17, 0x00, 0, 0)
+    s.feed(17, A, 0, 0)
+    s.closing(17)
+    s.save(17)
+    s.pick_up(17, GOOD)
+    s.reset(0)
+
+
+GOOD = saved_of(Chain(2, eight([0, 2]), [0] * 8, Place(1, 1)))
+
+
+def cases_saved(s):
+    two = stream(section([window(9, 11, "112233"), window(5, 5, "44")], 0x81), lead="B2B2")
+    s.say("save, 0: 'Bit-packed fields, most significant first'; every awaited byte of a write and of a check; 'Saving leaves the run open'")
+    for check in (0, 1):
+        for k in range(len(two)):
+            stopped(s, 6, check, 0xC3, two, k)
+            s.save(0, room=30)
+            s.feed(0, two[k:], len(two), 4 * check)
+    s.say("save, 0: the bytes of three places worked out by hand")
+    stopped(s, 1, 0, 0xC3, A, 12)
+    zeros = "00 00 00 00 00 00 00"
+    s.save(0, f"12 18 01 00 0009 000B 000A 0000000C 00000000 00 {zeros} 00")
+    stopped(s, 6, 1, 0xC3, two, 13)
+    s.save(0, f"1D 18 02 00 0009 000B 000A 0000000D 00000001 C3 {zeros} 81")
+    s.new(0, 8, [0] * 8)
+    load(s, 1, 2, 3, 0x20, 0x21, 0x22, 0x23, 0x28)
+    s.start(0, 5)
+    s.feed(16, stream(*[section([], 0x40 + i) for i in (0, 1, 2, 3, 8, 9, 10, 11)])[:-1], 48, 0)
+    s.save(0, "1A FA 00 00 0000 0000 0000 00000030 00000000 40 41 42 43 48 49 4A 4B 4B")
+    s.say("save, 15: 26 bytes and none; more than 27: the front only")
+    s.save(15, room=26)
+    s.save(15, room=0)
+    s.save(0, room=60)
+    s.say("save, 1 before 17 before 4 before 15")
+    s.save(1, lent=415)
+    s.save(1, room=0, lent=0)
+    s.new(0, 1, [0])
+    s.save(4)
+    s.save(4, room=0)
+    s.state(Chain(1, [0, 2] + [0] * 6))
+    s.save(17, room=0)
+    s.say("pick-up, 1 before 17 before 3, 'after the state's own, 3, then 17 for the place'")
+    s.new(0, 2, [0, 2])
+    s.pick_up(1, GOOD, lent=2716)
+    s.pick_up(1, "", lent=0)
+    s.pick_up(17, "")
+    s.start(0, 1)
+    s.pick_up(3, GOOD)
+    s.pick_up(3, "")
+    s.pick_up(1, GOOD, lent=0)
+    s.state(Chain(2, [0, 2, 2] + [0] * 5, [0] * 8, Place(1, 1)))
+    s.pick_up(17, GOOD)
+    s.state(Chain(2, eight([0, 2]), [0, 0, 1] + [0] * 5))
+    s.pick_up(17, GOOD)
+    s.say("pick-up, 17: 'length 27'")
+    s.new(0, 2, [0, 2])
+    for place in (GOOD[:26], GOOD + b"\x00", b"", GOOD[1:], GOOD + GOOD, GOOD[:1]):
+        s.pick_up(17, place)
+    s.say("pick-up, 17: 'form 1'")
+    for form in (0, 2, 3, 4, 8, 9, 15):
+        s.pick_up(17, bytes([form * 16 + GOOD[0] % 16]) + GOOD[1:])
+    s.say("pick-up, 17: 'zero bits 0'")
+    s.pick_up(17, GOOD[:1] + bytes([GOOD[1] | 1]) + GOOD[2:])
+    for bit in range(8):
+        s.pick_up(17, GOOD[:3] + bytes([1 << bit]) + GOOD[4:])
+    s.pick_up(0, GOOD)
+    s.say("the same chain: a place of kind 2 is not well formed where that device is of kind 0")
+    s.new(0, 2, [2, 2])
+    wide = saved_of(Chain(2, eight([2, 2]), [0] * 8, Place(1, 1, awaited=12, left=1, start=50, next=51, end=60)))
+    s.pick_up(0, wide)
+    s.new(0, 2, [0, 2])
+    s.pick_up(17, wide)
+    last = ""
+    for sentence, place, registers, good in rows_of_places():
+        if sentence != last:
+            s.say(f"well formed: '{sentence}': the place saved, and the same place lent open")
+            last = sentence
+        c = Chain(2, eight([0, 2]), registers, place)
+        s.new(0, 2, [0, 2])
+        s.pick_up(0 if good else 17, saved_of(c))
+        s.state(c)
+        if good:
+            s.feed(16, "", place.taken, place.mismatches)
+        else:
+            refused(s)
+    s.say("well formed, of lent states alone: running and check not 0 or 1, numbers that a saved place has no room for")
+    places = [Place(2, 1), Place(255, 1), Place(1, 1, 2), Place(1, 1, 255), Place(1, 255), Place(1, 9), Place(1, 0)]
+    places += [Place(1, 1, 0, 8), Place(1, 1, 0, 255, 7, 1), Place(1, 1, 0, 0, 16), Place(1, 1, 0, 0, 255, 1)]
+    for place in places:
+        s.state(Chain(2, eight([0, 2]), [0] * 8, place))
+        refused(s)
+
+
+def cases_picked_up(s):
+    s.say("'Bytes taken and mismatches are kept modulo 2^32': picked up at 2^32 - 1, then fed, a check")
+    top = 2**32 - 1
+    c = Chain(1, [0] * 8, [0] * 8, Place(1, 1, 1, awaited=12, left=1, start=9, next=9, end=11, taken=top, mismatches=top))
+    s.new(0, 1, [0])
+    s.fill(0x00, 0x01)
+    s.pick_up(0, saved_of(c))
+    s.feed(16, "", top, top)
+    s.byte(16, 0x09, 0, top)
+    s.byte(16, 0xFF, 1, 0)
+    s.feed(0, "FF 4D", 3, 1)
+    s.pick_up(0, saved_of(c))
+    s.feed(0, "FF FF FF 4D", 3, 2)
+    s.say("the same in a write, and a refused byte that wraps")
+    c.place = replace(c.place, check=0, mismatches=0)
+    s.pick_up(0, saved_of(c))
+    s.feed(0, "11 22 33 4D", 3, 0)
+    c.place = Place(1, 1, taken=top)
+    s.pick_up(0, saved_of(c))
+    s.byte(5, 0x00, 0, 0)
+    s.say("a bulk of data bytes that wraps both: kind 2, 2,665 mismatches")
+    s.new(0, 1, [2])
+    s.fill(0x00)
+    c = Chain(1, eight([2]), [0] * 8, Place(1, 1, 1, awaited=12, left=1, start=0, next=0, end=2664, taken=top - 999, mismatches=top - 1999))
+    s.pick_up(0, saved_of(c))
+    s.feed(16, b"\x01" * 2665, 1665, 665)
+    s.save(0)
+    s.byte(0, 0x4D, 1666, 665)
+    s.say("'an older B4 comes back with them', set: the second device's B4 was set when the place was saved, reset cleared it, the pick-up brings it back")
+    s.new(0, 2, [0, 0])
+    s.fill(0x40)
+    load(s, 0x01, 0x10)
+    s.start(0, 1)
+    s.feed(16, A[:13], 13, 0)
+    place = s.save(0)
+    s.reset(0)
+    s.pick_up(0, place)
+    assert s.c.registers[1] == 0x10
+    s.feed(16, A[13:14], 14, 0)
+    s.feed(6, stream(section([]), section([]))[6:], 15, 0)
+    s.say("the same, clear: saved while it was clear, set by a later run, the pick-up clears it and the second device is begun")
+    s.reset(0)
+    load(s, 0x01, 0x02)
+    s.start(0, 1)
+    s.feed(16, A[:13], 13, 0)
+    place = s.save(0)
+    s.reset(0)
+    load(s, 0x03, 0x10)
+    s.start(0, 1)
+    s.feed(6, stream(section([]), section([])), 7, 0)
+    s.pick_up(0, place)
+    assert s.c.registers[:2] == [0x00, 0x02]
+    s.feed(0, A[13:14] + stream(section([]), section([window(0, 0, "77")], 0x05))[6:], 27, 0)
+    s.say("the same on the first device itself: B4 of the stream's own control byte, saved after it was taken")
+    s.reset(0)
+    s.start(0, 1)
+    s.feed(16, "B2 10 00", 3, 0)
+    place = s.save(0)
+    s.reset(0)
+    s.pick_up(0, place)
+    s.feed(0, A[3:], 15, 0)
+    s.start(0, 1)
+    s.byte(6, PREAMBLE)
+    s.say("lent registers that a place at 0 brings back with B4 set: it is taken, and its B2 is 6")
+    s.reset(0)
+    s.pick_up(0, saved_of(Chain(2, [0] * 8, eight([0x10]), Place(1, 1))))
+    s.byte(6, PREAMBLE, 1, 0)
+    s.say("picked up twice: the saved bytes are not used up")
+    s.reset(0)
+    for _ in range(2):
+        s.pick_up(0, saved_of(Chain(2, [0] * 8, [0] * 8, Place(1, 1))))
+        s.feed(0, A, 15, 0)
+
+
+def cases_hunt(s):
+    s.say("hunt, 0: 'the first bit position p, 0 to 64, where eight bits make B2. It writes the whole bytes that start at p .. and drops a last part byte'")
+
+    def shifted(p, s):
+        return (int.from_bytes(s, "little") << p).to_bytes(len(s) + (p + 7) // 8, "little")
+
+    for p in (0, 1, 8, 64):
+        sent = shifted(p, A)
+        assert len(sent) == 15 + (p + 7) // 8
+        s.hunt(0, sent, A, room=24)
+    s.say("hunt, 0: every other position, zeros before the preamble; then every position, ones before it")
+    for p in range(65):
+        if p not in (0, 1, 8, 64):
+            s.hunt(0, shifted(p, A[:4]), A[:4], room=8)
+    for p in range(1, 65):
+        ones = (int.from_bytes(A[:3], "little") << p) | (1 << p) - 1
+        s.hunt(0, ones.to_bytes(3 + (p + 7) // 8, "little"), A[:3], room=8)
+    s.say("hunt, 5: 'without a position': p = 65, 66, 72; zeros; ones; nothing; B2 cut short")
+    for p in (65, 66, 71, 72):
+        s.hunt(5, shifted(p, A))
+    for sent in ("00" * 20, "FF" * 20, "", "B1", "59", "64", "00 00 00 00 00 00 00 00"):
+        s.hunt(5, sent)
+    s.hunt(5, "00" * 8 + "32")
+    s.say("hunt, 0: eight bits are enough, at p = 0 and at p = 64")
+    s.hunt(0, "B2", "B2", room=1)
+    s.hunt(0, "00" * 8 + "B2", "B2", room=1)
+    s.hunt(0, "64 01", "B2", room=1)
+    s.say("hunt, 0: the first of two positions: 0 and 8; 3 and 16")
+    s.hunt(0, "B2 B2", "B2 B2")
+    s.hunt(0, "90 05 B2", "B2 40")
+    s.say("hunt, 15: 'output .. shorter than needed'; 'Hunt: 5, 15'")
+    s.hunt(15, A, room=14)
+    s.hunt(15, A, room=0)
+    s.hunt(15, shifted(3, A), room=14)
+    s.hunt(5, "00 00", room=0)
+    s.hunt(0, A, A, room=15)
+    s.say("'The machine is fed these': a stream in mode 3, four bits late, hunted and fed; mode 4 likewise")
+    s.new(0, 1, [0])
+    s.fill(0x40)
+    for mode in (3, 4):
+        written = s.write(0, 0, mode, 0x00, "000000", [9], [11], "112233")
+        hunted = s.hunt(0, shifted(4, written))
+        s.start(0, mode)
+        s.feed(0, hunted, 15, 0)
+    s.say("a long stream, at a bit offset: kind 2 whole")
+    whole = stream(section([window(0, 2664, [i % 253 for i in range(2665)])]))
+    s.hunt(0, shifted(13, whole), whole, room=2700)
+
+
+def cases_write(s):
+    s.say("write, 0: 'Its lead-in is B2 in modes 1, 2, 5; 00 B2 in 3, 4; B2 B2 in 6. Null bytes are 00.'")
+    body = "A5 01 02 03 FD 00 0009 000B 112233 00 0033 0033 44 4D"
+    for mode, lead in ((1, "B2"), (2, "B2"), (3, "00 B2"), (4, "00 B2"), (5, "B2"), (6, "B2 B2")):
+        s.write(0, 0, mode, 0xA5, "010203", [9, 51], [11, 51], "11223344", lead + body, room=40)
+    s.say("write, 0: no windows; 255 windows")
+    s.write(0, 0, 1, 0xFF, "FFFFFF", [], [], "", "B2 FF FFFFFF FF 4D")
+    s.write(0, 0, 6, 0x00, "000000", [i % 52 for i in range(255)], [i % 52 for i in range(255)], range(255), room=1538)
+    for kind, size in SIZES.items():
+        s.say(f"write, 0: 'One window over a whole device takes size + 12 bytes in mode 1': kind {kind}, {size + 12}")
+        data = [(i * i) % 251 for i in range(size)]
+        whole = s.write(0, kind, 1, 0x00, "000000", [0], [size - 1], data, room=size + 12)
+        assert len(whole) == size + 12
+        if kind == 2:
+            assert len(whole) == 2677
+            for mode in (3, 4, 6):
+                s.write(15, kind, mode, 0x00, "000000", [0], [size - 1], data, room=2677)
+        s.list(0, kind, 1, whole, (1, 0, "000000", size + 12, (0, size - 1, 11)))
+    s.say("write, 0: 'Each window goes into the output from where the last one stopped', in the order given, overlaps too")
+    s.write(0, 2, 1, 0x00, "000000", [300, 5, 4], [302, 6, 5], "A1A2A3B1B2C1C2", "B2 00000000 FC 00012C012E A1A2A3 0000050006 B1B2 0000040005 C1C2 4D")
+    s.write(0, 2, 1, 0x00, "000000", [255, 256, 2559], [255, 257, 2560], "A1B1B2C1C2", "B2 00000000 FC 0000FF00FF A1 0001000101 B1B2 0009FF0A00 C1C2 4D")
+    s.say("write, 1: an unknown kind, before everything; 2: 'writer .. with a mode not 1 to 6'")
+    for kind in (1, 4, 6, 9, 11, 255):
+        s.write(1, kind, 1, 0x00, "000000", [0], [0], "11")
+    s.write(1, 1, 0, 0x00, "000000", [0], [], "", room=0)
+    for mode in (0, 7, 255):
+        s.write(2, 0, mode, 0x00, "000000", [0], [0], "11")
+        s.write(2, 0, mode, 0x00, "000000", [99], [], "", room=0)
+    s.say("write, 13: 'start and end tables differ in length'; before any window is looked at")
+    s.write(13, 0, 1, 0x00, "000000", [9, 5], [11], "112233")
+    s.write(13, 0, 1, 0x00, "000000", [], [11], "")
+    s.write(13, 0, 1, 0x00, "000000", [99], [], "", room=0)
+    s.say("write, 13: '.. or exceed 255': 256 windows; 256 and 255")
+    s.write(13, 0, 1, 0x00, "000000", [0] * 256, [0] * 256, bytes(256), room=2000)
+    s.write(13, 0, 1, 0x00, "000000", [99] * 256, [0] * 255, bytes(256), room=2000)
+    s.say("write, 11: 'start not below the device's size'; 12: 'end below start or not below size'; 'window by window 11, 12'")
+    for kind, size in SIZES.items():
+        s.write(11, kind, 1, 0x00, "000000", [size], [size], "11")
+        s.write(12, kind, 1, 0x00, "000000", [size - 1], [size], "1122")
+        s.write(12, kind, 1, 0x00, "000000", [size - 1], [size - 2], "")
+        s.write(0, kind, 1, 0x00, "000000", [size - 1], [size - 1], "11")
+    s.write(11, 0, 1, 0x00, "000000", [0xFFFF], [0], "11")
+    s.write(12, 0, 1, 0x00, "000000", [0], [0xFFFF], "11")
+    s.write(12, 0, 1, 0x00, "000000", [9, 52], [8, 52], "")
+    s.write(11, 0, 1, 0x00, "000000", [9, 52, 9], [9, 8, 8], "", room=0)
+    s.say("write, 14: 'data length is not the sum of the windows', by one either way; before 15")
+    s.write(14, 0, 1, 0x00, "000000", [9, 5], [11, 5], "112233")
+    s.write(14, 0, 1, 0x00, "000000", [9, 5], [11, 5], "1122334455")
+    s.write(14, 0, 1, 0x00, "000000", [], [], "11")
+    s.write(14, 0, 1, 0x00, "000000", [9], [11], "", room=0)
+    s.say("write, 15: 'output .. shorter than needed' in each lead-in; exactly enough")
+    for mode, n in ((1, 15), (2, 15), (3, 16), (4, 16), (5, 15), (6, 16)):
+        s.write(15, 0, mode, 0x00, "000000", [9], [11], "112233", room=n - 1)
+        s.write(0, 0, mode, 0x00, "000000", [9], [11], "112233", room=n)
+    s.write(15, 0, 1, 0x00, "000000", [], [], "", room=0)
+
+
+def cases_list(s):
+    s.say("list, 0: windows, control byte, external address, bytes taken; 'data offsets (32 bits, from the preamble that precedes the control byte ..)'")
+    two = section([window(9, 11, "112233"), window(51, 51, "44", null=0xB2)], 0xA5, "010203")
+    want = (2, 0xA5, "010203", 21)
+    for mode in range(1, 7):
+        s.list(0, 0, mode, stream(two, lead="B2B2" if mode == 6 else "B2"), (*want[:3], 21 + (mode == 6), (9, 11, 11), (51, 51, 19)))
+    s.say("list, 0: bytes after the postamble are not looked at; tables of exactly enough; no windows and no tables")
+    s.list(0, 0, 1, stream(two) + b"\xff" * 9, want, tables=(2, 2, 2))
+    s.list(0, 0, 1, EMPTY, (0, 0, "000000", 7), tables=(0, 0, 0))
+    s.say("list, 0: 'for one freshly reset device', as a write: B3 and B4 in the control byte are no matter")
+    s.list(0, 0, 1, stream(section([window(0, 0, "00")], 0xFF)), (1, 0xFF, "000000", 13, (0, 0, 11)))
+    s.say("list, 0: 255 windows")
+    many = stream(section([window(i % 52, i % 52, [i]) for i in range(255)]))
+    s.list(0, 0, 1, many, (255, 0, "000000", 1537), tables=(255, 256, 300))
+    s.say("list, 1: the kind, before everything; 2: the mode; bytes taken 0")
+    for kind in (1, 4, 11, 255):
+        s.list(1, kind, 1, stream(two), (0, 0, "000000", 0))
+    s.list(1, 1, 0, "", (0, 0, "000000", 0), tables=(0, 0, 0))
+    for mode in (0, 7, 255):
+        s.list(2, 0, mode, stream(two), (0, 0, "000000", 0))
+    s.say("list, 5: at the first preamble, at the second in mode 6; in modes 3 and 4 it is lent the hunted bytes, and does not hunt")
+    s.list(5, 0, 1, "00" + stream(two).hex(), (0, 0, "000000", 1))
+    s.list(5, 0, 3, "00" + stream(two).hex(), (0, 0, "000000", 1))
+    s.list(5, 0, 6, stream(two), (0, 0, "000000", 2))
+    s.say("list, 8, 9, 10, 11, 12: 'the stream's own number', with the bytes taken")
+    s.list(8, 0, 1, stream(two)[:-1] + b"\x00", (0, 0, "000000", 21))
+    s.list(9, 0, 1, stream(two, two), (0, 0, "000000", 21))
+    s.list(10, 0, 1, stream(section([]), two), (0, 0, "000000", 7))
+    s.list(11, 0, 1, stream(section([window(9, 11, "112233"), window(52, 52, "44")])), (0, 0, "000000", 17))
+    s.list(12, 0, 1, stream(section([window(0, 52, bytes(53))])), (0, 0, "000000", 11))
+    s.list(12, 0, 1, "B2 00 000000 FE 00 000B 0009", (0, 0, "000000", 11))
+    s.list(0, 2, 1, stream(section([window(0, 52, bytes(53)), window(2664, 2664, "01")])), (2, 0, "000000", 71, (0, 52, 11), (2664, 2664, 69)))
+    s.say("list, 16: 'slice used up', at every byte of a stream")
+    for k in range(21):
+        s.list(16, 0, 1, stream(two)[:k], (0, 0, "000000", k))
+    s.list(16, 0, 6, "B2", (0, 0, "000000", 1))
+    s.say("list, 15: a 'table shorter than needed', each of the three; the bytes taken are answered; after the stream's own number")
+    for tables in ((1, 2, 2), (2, 1, 2), (2, 2, 1), (0, 0, 0), (0, 4, 4)):
+        s.list(15, 0, 1, stream(two), (0, 0, "000000", 21), tables)
+    s.list(8, 0, 1, stream(two)[:-1] + b"\x00", (0, 0, "000000", 21), tables=(0, 0, 0))
+    s.say("'Written again in the same mode, the listing gives the stream up to its postamble, lead-in and null bytes apart'")
+    for mode, lead in ((1, "B2"), (3, "B2"), (6, "B2B2")):
+        sent = stream(two, lead=lead)
+        s.list(0, 0, mode, sent, (*want[:3], len(sent), (9, 11, 11), (51, 51, 19)))
+        again = s.write(0, 0, mode, 0xA5, "010203", [9, 51], [11, 51], "11223344")
+        assert again[-20:] == sent[-20:].replace(b"\xb2\x00\x33", b"\x00\x00\x33")
+
+
+def ending(s):
+    """The number with which closing bytes end a run, by the awaited byte: 5, 0, 11 or 12 as the byte refused is a preamble, none, a start or an end."""
+    p = s.c.place
+    if p.awaited <= 1:
+        return 5
+    if p.awaited in (7, 8, 9):
+        return 11
+    if p.awaited in (10, 11):
+        return 12  # in the teaching array 255 is past the size
+    return 11 if p.left > 1 else 0
+
+
+def cases_stops(s):
+    for mode, check in ((1, 0), (6, 0), (1, 1), (6, 1)):
+        lead = "B2B2" if mode == 6 else "B2"
+        two = stream(section([window(9, 10, "1122"), window(10, 10, "44", null=0xFF)], 0x21), section([window(50, 51, "5566")], 0xC2), lead=lead)
+
+        def begin():
+            s.new(0, 2, [0, 0])
+            s.fill(0x31, 0x05, 104)
+            load(s, 0x01, 0x02)
+
+        s.say(f"a {'check' if check else 'write'} of two devices in mode {mode}, unbroken")
+        begin()
+        s.start(0, mode, check)
+        s.feed(0, two, len(two), 5 * check)
+        unbroken = s.mem, s.c
+        assert check or (s.mem[9:11], s.mem[102:104], s.c.registers[:2]) == (b"\x11\x44", b"\x55\x66", [0x21, 0xC2])
+        s.say("stopped at every byte: the closing bytes end the run and change nothing; the stream started afresh leaves what the unbroken one does")
+        for k in range(len(two)):
+            begin()
+            s.start(0, mode, check)
+            s.feed(16, two[:k], k)
+            before = s.mem, s.c.registers
+            s.feed(ending(s), s.closing(0))
+            assert (s.mem, s.c.registers) == before and not s.c.place.running
+            s.start(0, mode, check)
+            s.feed(0, two, len(two), 5 * check)
+            assert (s.mem, s.c) == unbroken
+        s.say("stopped at every byte: saved, the registers lost, picked up, and fed the rest: as unbroken")
+        for k in range(len(two)):
+            begin()
+            s.start(0, mode, check)
+            s.feed(16, two[:k], k)
+            open_run, place = s.c, s.save(0)
+            s.new(0, 2, [0, 0])
+            s.pick_up(0, place)
+            assert s.c == open_run
+            s.feed(0, two[k:], len(two), 5 * check)
+            assert (s.mem, s.c) == unbroken
+
+
+ALL = [cases_new, cases_reset, cases_start, cases_bytes, cases_preamble, cases_control, cases_windows, cases_check_byte, cases_check, cases_guide]
+ALL += [cases_chains, cases_closing, cases_saved, cases_picked_up, cases_hunt, cases_write, cases_list, cases_stops]
+
+
+# Every number that each call can give, by the paper's table; each is given at least once.
+FED = {0, 1, 4, 5, 6, 7, 8, 9, 10, 11, 12, 16, 17}
+CAN_GIVE = {"n": {0, 1}, "r": {0, 1}, "s": {0, 1, 2, 3, 17}, "b": FED, "f": FED, "c": {0, 1, 4, 15, 17}, "v": {0, 1, 4, 15, 17}, "p": {0, 1, 3, 17}}
+CAN_GIVE |= {"h": {0, 5, 15}, "w": {0, 1, 2, 11, 12, 13, 14, 15}, "l": {0, 1, 2, 5, 8, 9, 10, 11, 12, 15, 16}}
+
+
+def main():
+    s = Script()
+    for cases in ALL:
+        cases(s)
+    assert s.given == {(letter, n) for letter, numbers in CAN_GIVE.items() for n in numbers}
+    here = Path(__file__).resolve().parents[2] / "crates" / "cases"
+    files = {here / "stdin": bytes(s.stdin), here / "stdout": ("\n".join(s.stdout) + "\n").encode()}
+    if "--check" in sys.argv[1:]:
+        for path, text in files.items():
+            if path.read_bytes() != text:
+                raise SystemExit(f"{path.name} differs from what the model works out")
+    else:
+        for path, text in files.items():
+            path.write_bytes(text)
+    print(f"{s.calls} calls, {len(s.stdout)} lines")
+
+
+main()
