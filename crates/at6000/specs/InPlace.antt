@@ -1,22 +1,17 @@
--- The in-place calls: what each leaves where the caller keeps the chain, and what it answers. Assumes nothing.
+-- The in-place calls: the chain that is left where the caller keeps it and what is answered are, together, the result of the call by
+-- value, and are held to its promise. Assumes nothing.
 use Prim.Native.Nat.{ℕ}
 use mathlib.Core.List.{List}
-use lib.ListN.{length}
 use Rattle.chain.specs.declared.Chain.{Chain}
-use Rattle.chain.specs.declared.Made.{Made}
-use Rattle.machine.specs.declared.Fed.{Fed}
-use Rattle.machine.specs.Calls.{startOf, sliceOf, sliceMemory}
-use Rattle.saved.specs.Calls.{pickUpOf}
+use Rattle.machine.specs.declared.Answer.{Answer}
+use Rattle.machine.specs.Calls.{Start, Slice}
+use Rattle.saved.specs.Calls.{PickUp}
 
--- each is the call by value, of what the caller lends
-unfoldable pub started : Chain → List ℕ → ℕ → ℕ → Made
-started c m mode check = startOf c (length m) mode check
+abbrev pub StartIn : Chain → List ℕ → ℕ → ℕ → Chain → ℕ → Type 0
+StartIn c m mode check c′ n = Start c m mode check (record { chain = c′; number = n })
 
-unfoldable pub sliced : Chain → List ℕ → List ℕ → Fed
-sliced c m s = sliceOf c m s
+abbrev pub SliceIn : Chain → List ℕ → List ℕ → Chain → Answer → List ℕ → Type 0
+SliceIn c m s c′ a m′ = Slice c m s (record { chain = c′; answer = a }) m′
 
-unfoldable pub slicedMemory : Chain → List ℕ → List ℕ → List ℕ
-slicedMemory c m s = sliceMemory c m s
-
-unfoldable pub pickedUp : Chain → List ℕ → List ℕ → Made
-pickedUp c m s = pickUpOf c (length m) s
+abbrev pub PickUpIn : Chain → List ℕ → List ℕ → Chain → ℕ → Type 0
+PickUpIn c m s c′ n = PickUp c m s (record { chain = c′; number = n })

@@ -8,7 +8,7 @@ use lister::Listed;
 use machine::Answer;
 use machine::Fed;
 ghost use mathlib.Core.Path.{_≡_};
-ghost use Rattle.at6000.specs.InPlace.{started, sliced, slicedMemory, pickedUp};
+ghost use Rattle.at6000.specs.InPlace.{StartIn, SliceIn, PickUpIn};
 ghost use Rattle.chain.specs.Calls.{New, Reset};
 ghost use Rattle.machine.specs.Calls.{Start, Slice, Byte};
 ghost use Rattle.closing.specs.Calls.{Closing};
@@ -113,47 +113,29 @@ pub extern "C" fn at6000_list(
 }
 
 // For a controller's main loop. Each in-place call is its call by value, with the chain stored back and the answer handed on.
-fn start_by(c: Chain, mem: &[u8], mode: u8, check: u8) -> Made
-    ensures { λ r. ⌜ r ≡ started c (now (mem .entry)) mode check ⌝ }
-{
-    machine::start(c, mem, mode, check)
-}
-
-fn slice_by(c: Chain, mem: &mut [u8], s: &[u8]) -> Fed
-    ensures { λ r. ⌜ (r ≡ sliced c (now (mem .entry)) (now (s .entry))) × (now (mem .exit) ≡ slicedMemory c (now (mem .entry)) (now (s .entry))) ⌝ }
-{
-    machine::slice(c, mem, s)
-}
-
-fn pick_up_by(c: Chain, mem: &[u8], saved: &[u8]) -> Made
-    ensures { λ r. ⌜ r ≡ pickedUp c (now (mem .entry)) (now (saved .entry)) ⌝ }
-{
-    saved::pick_up(c, mem, saved)
-}
-
 #[no_mangle]
 pub extern "C" fn at6000_start_in(c: &mut Chain, mem: &[u8], mode: u8, check: u8) -> u8
-    ensures { λ r. ⌜ (now (c .exit) ≡ started (now (c .entry)) (now (mem .entry)) mode check .chain) × (r ≡ started (now (c .entry)) (now (mem .entry)) mode check .number) ⌝ }
+    ensures { λ r. ⌜ StartIn (now (c .entry)) (now (mem .entry)) mode check (now (c .exit)) r ⌝ }
 {
-    let f = start_by(*c, mem, mode, check);
+    let f = machine::start(*c, mem, mode, check);
     *c = f.chain;
     f.number
 }
 
 #[no_mangle]
 pub extern "C" fn at6000_slice_in(c: &mut Chain, mem: &mut [u8], s: &[u8]) -> Answer
-    ensures { λ r. ⌜ (now (c .exit) ≡ sliced (now (c .entry)) (now (mem .entry)) (now (s .entry)) .chain) × (now (mem .exit) ≡ slicedMemory (now (c .entry)) (now (mem .entry)) (now (s .entry))) × (r ≡ sliced (now (c .entry)) (now (mem .entry)) (now (s .entry)) .answer) ⌝ }
+    ensures { λ r. ⌜ SliceIn (now (c .entry)) (now (mem .entry)) (now (s .entry)) (now (c .exit)) r (now (mem .exit)) ⌝ }
 {
-    let f = slice_by(*c, mem, s);
+    let f = machine::slice(*c, mem, s);
     *c = f.chain;
     f.answer
 }
 
 #[no_mangle]
 pub extern "C" fn at6000_pick_up_in(c: &mut Chain, mem: &[u8], saved: &[u8]) -> u8
-    ensures { λ r. ⌜ (now (c .exit) ≡ pickedUp (now (c .entry)) (now (mem .entry)) (now (saved .entry)) .chain) × (r ≡ pickedUp (now (c .entry)) (now (mem .entry)) (now (saved .entry)) .number) ⌝ }
+    ensures { λ r. ⌜ PickUpIn (now (c .entry)) (now (mem .entry)) (now (saved .entry)) (now (c .exit)) r ⌝ }
 {
-    let f = pick_up_by(*c, mem, saved);
+    let f = saved::pick_up(*c, mem, saved);
     *c = f.chain;
     f.number
 }

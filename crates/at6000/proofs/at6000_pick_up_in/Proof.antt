@@ -1,4 +1,4 @@
--- `at6000::at6000_pick_up_in` meets its contract: a walk of its MIR, by hand. The borrow of the Chain is opened, the Chain is copied and passed to `pick_up_by` with the other parameters, of which the proof knows only that it meets its contract; the Chain of what it returns is stored in the cell, and the borrow is closed at it.
+-- `at6000::at6000_pick_up_in` meets its contract: a walk of its MIR, by hand. The borrow of the Chain is opened, the Chain is copied and passed to `saved::pick_up` with the other parameters, of which the proof knows only that it meets its contract; the Chain of what it returns is stored in the cell, and the borrow is closed at it.
 -- A `&mut` slice is given up for good, at its own lifetime, share and name: what the step says of its last list is what is said of it at exit. Of every other parameter nothing is had at exit. No machine value of a struct is written out: a record's is `LL.val` of it.
 -- Assumes nothing.
 use mathlib.Core.Path.{_≡_, refl, ap}
@@ -41,17 +41,17 @@ use denote.Triple.Spec.{Meets, tripleOf}
 use denote.Triple.Table.{entered, cited}
 use denote.Triple.Walked.{says, Stays, stay-ref, stay-dropped, walkOf, goes-ref, goes-dropped, Walks, ends-at, walked, walk-meets}
 use denote.Exit.{yes}
-use Rattle.at6000.specs.InPlace.{pickedUp}
+use Rattle.saved.specs.Calls.{PickUp}
 use Rattle.chain.specs.declared.Chain.{Chain}
 use Rattle.chain.specs.declared.Made.{Made}
 use Rattle.chain.proofs.Chain as T
 use Rattle.chain.proofs.Chain.Laws as T′
 use Rattle.chain.proofs.Made as F
 use Rattle.chain.proofs.Made.Laws as F′
-use Rattle.at6000.proofs.pick_up_by as step
-use Rattle.at6000.proofs.pick_up_by.Symbol as step-def
-use Rattle.at6000.proofs.pick_up_by.Symbol.{name as #at6000·pick-up-by}
-use Rattle.at6000.proofs.pick_up_by.Met as step-thm
+use Rattle.saved.proofs.pick_up as step
+use Rattle.saved.proofs.pick_up.Symbol as step-def
+use Rattle.saved.proofs.pick_up.Symbol.{name as #saved·pick-up}
+use Rattle.saved.proofs.pick_up.Met as step-thm
 use Rattle.at6000.proofs.at6000_pick_up_in.Key.{name as #at6000·at6000-pick-up-in}
 use Rattle.at6000.proofs.at6000_pick_up_in as thin
 use Rattle.at6000.proofs.at6000_pick_up_in.Statement as stated
@@ -79,14 +79,14 @@ module _ {M : Type 1} (𝓤 : URA M) (H : Heap 𝓤) (A : Atoms 𝓤) (W : Given
 
   -- what the step says of its result and of the last lists
   abbrev Says : Made → Type 0
-  Says r = (r ≡ pickedUp h (mem-in .now) (saved-in .now))
+  Says r = PickUp h (mem-in .now) (saved-in .now) r
 
   exits : (r : Made) → Says r → r .number < 2 ^ 8
       → ent 𝓤 (⋆ 𝓤 H A (‵ (fobs γ (T.the-row .coded .code (r .chain))) ∷ ‵ (fbor κ (Body (mem T.the-row) b o γ)) ∷ ‵ (flft κ q) ∷ (‵ (flft κ₁ q₁) ⊛ ‵ (flft κ₂ q₂) ⊛ ‵ ftrue) ∷ [])) (Post (vint w8 (r .number)))
   exits r e good =
       qed W (‵ (fobs γ (T.the-row .coded .code (r .chain))) ∷ ‵ (fbor κ (Body (mem T.the-row) b o γ)) ∷ ‵ (flft κ q) ∷ (‵ (flft κ₁ q₁) ⊛ ‵ (flft κ₂ q₂) ⊛ ‵ ftrue) ∷ []) ∵
       suffices ! _ (ends-at 𝓤 H A thin.ended stayed (thin.clauses 𝓤 H A at-mem run) W (((κ, (κ₁, (κ₂, tt))), (q, (q₁, (q₂, tt))), tt, x, at), tt) (vint w8 (r .number)) (r .number) (r .chain, (tt, (tt, tt))) (tt, (tt, (tt, tt)))) $
-      says ! (ap (λ (f : Made). f .chain) (e), ap (λ (f : Made). f .number) (e)) $ move ! (2 ∷ 3 ∷ []) $ join ! $ frame ! $
+      says ! e $ move ! (2 ∷ 3 ∷ []) $ join ! $ frame ! $
       feqI ! (List Val) (vptr b o ∷ []) (vptr b o ∷ []) refl $ fjoin3 ! $ nothing ! $ nothing ! $ fjoin ! $ nothing ! $ fjoin ! $ move ! (1 ∷ 0 ∷ []) $ fjoin ! $
       owned ! u8 (Is u8) (uint-makes 𝓤 H A W w8) (r .number) _ (refl, good) $ move ! (1 ∷ 0 ∷ []) $ done !
 
@@ -101,7 +101,7 @@ module _ {M : Type 1} (𝓤 : URA M) (H : Heap 𝓤) (A : Atoms 𝓤) (W : Given
   goes-step : ent 𝓤 (⋆ 𝓤 H A ((‵ (flft κ₁ q₁) ⊛ ‵ (flft κ₂ q₂) ⊛ ‵ ftrue) ∷ ‵ (T.the-row .own h (mach h ∷ [])) ∷ ‵ Rest ∷ [])) (Step 𝓤 H A at-mem run .pre to-step)
   goes-step = qed W ((‵ (flft κ₁ q₁) ⊛ ‵ (flft κ₂ q₂) ⊛ ‵ ftrue) ∷ ‵ (T.the-row .own h (mach h ∷ [])) ∷ ‵ Rest ∷ []) ∵ move ! (1 ∷ 2 ∷ []) $ fjoin ! $ move ! (1 ∷ 0 ∷ []) $ join ! $ frame ! $ done !
 
-  module _ (C : Calls 𝓤 H) (Λ : Loops 𝓤 H) (fm : FmC 𝓤 H (W .laws) C) (known : Triple 𝓤 (C #at6000·pick-up-by) (Step 𝓤 H A at-mem run)) where
+  module _ (C : Calls 𝓤 H) (Λ : Loops 𝓤 H) (fm : FmC 𝓤 H (W .laws) C) (known : Triple 𝓤 (C #saved·pick-up) (Step 𝓤 H A at-mem run)) where
     walk : ent 𝓤 (onEntry 𝓤 H A thin.signature (κ, (κ₁, (κ₂, tt))) (q, (q₁, (q₂, tt))) x at) (WpFn 𝓤 H C Λ code.function (vptr b o ∷ (sliceVal (mem-in .ptr) (length (mem-in .now))) ∷ (sliceVal (saved-in .ptr) (length (saved-in .now))) ∷ []) Post)
     walk =
         qed W ((‵ (flft κ q) ⊛ ‵ (flft κ₁ q₁) ⊛ ‵ (flft κ₂ q₂) ⊛ ‵ ftrue) ∷ ‵ (owns (MutRef (named 0) κ T.the-row ∷ ShrSlice (named 1) κ₁ u8 ∷ ShrSlice (named 2) κ₂ u8 ∷ []) x at) ∷ []) ∵
@@ -133,11 +133,11 @@ module _ {M : Type 1} (𝓤 : URA M) (H : Heap 𝓤) (A : Atoms 𝓤) (W : Given
         keep ! (0 ∷ 1 ∷ 2 ∷ 3 ∷ []) $ by ! (exits r e (LL.owed F.the-type F′.the-laws r _ is .1 .0 .1)))))))))))))))
 
 module _ {M : Type 1} (𝓤 : URA M) (H : Heap 𝓤) (A : Atoms 𝓤) (W : Given 𝓤 H A) (at-mem : Memory → SProp 𝓤) (run : Routine → Fun 𝓤) where
-  thin-walks : (C : Calls 𝓤 H) (Λ : Loops 𝓤 H) → FmC 𝓤 H (W .laws) C → Triple 𝓤 (C #at6000·pick-up-by) (Step 𝓤 H A at-mem run) → Walks 𝓤 H A thin.ended stayed (WpFn 𝓤 H C Λ code.function) (thin.clauses 𝓤 H A at-mem run)
+  thin-walks : (C : Calls 𝓤 H) (Λ : Loops 𝓤 H) → FmC 𝓤 H (W .laws) C → Triple 𝓤 (C #saved·pick-up) (Step 𝓤 H A at-mem run) → Walks 𝓤 H A thin.ended stayed (WpFn 𝓤 H C Λ code.function) (thin.clauses 𝓤 H A at-mem run)
   thin-walks C Λ fm known = walked 𝓤 H A thin.ended stayed (thin.clauses 𝓤 H A at-mem run) (WpFn 𝓤 H C Λ code.function) (λ κs. (ptr-vals, (slice-vals, (slice-vals, tt)))) (λ κs. (mut-tells (named 0) (κs .0) T.the-row, (shr-slice-tells (named 1) (κs .1 .0) u8, (shr-slice-tells (named 2) (κs .1 .1 .0) u8, tt))))
       (λ κs qs bounds a _ are. via 𝓤 _ (fst∗ 𝓤 _ (emp 𝓤)) (walk 𝓤 H A W at-mem run (κs .0) (κs .1 .0) (κs .1 .1 .0) (qs .0) (qs .1 .0) (qs .1 .1 .0) (a .0 .ptr .0) (a .0 .ptr .1) (a .0 .name) (a .0 .now) (a .1 .0) (are .1 .0) (a .1 .1 .0) (are .1 .1 .0) C Λ fm known))
 
-thin-meets : {M : Type 1} (𝓤 : URA M) (H : Heap 𝓤) (A : Atoms 𝓤) (W : Given 𝓤 H A) (at-mem : Memory → SProp 𝓤) (run : Routine → Fun 𝓤) (𝓣 : Tables 𝓤 H) → Triple 𝓤 (𝓣 .C #at6000·pick-up-by) (Step 𝓤 H A at-mem run)
+thin-meets : {M : Type 1} (𝓤 : URA M) (H : Heap 𝓤) (A : Atoms 𝓤) (W : Given 𝓤 H A) (at-mem : Memory → SProp 𝓤) (run : Routine → Fun 𝓤) (𝓣 : Tables 𝓤 H) → Triple 𝓤 (𝓣 .C #saved·pick-up) (Step 𝓤 H A at-mem run)
     → Meets 𝓤 H A thin.signature (WpFn 𝓤 H (𝓣 .C) (𝓣 .Λ) code.function) (thin.spec 𝓤 H A at-mem run)
 thin-meets 𝓤 H A W at-mem run 𝓣 known = walk-meets 𝓤 H A thin.ended stayed W (goes-ref 𝓤 H A W 3 0 tt (plain (λ _. T.the-row)), (goes-dropped 𝓤 H A W 3 (shrSliceOf (1 ∷ []) tt (plain (λ _. u8))) yes (λ κs x f. refl), (goes-dropped 𝓤 H A W 3 (shrSliceOf (2 ∷ []) tt (plain (λ _. u8))) yes (λ κs x f. refl), tt)))
     (thin.clauses 𝓤 H A at-mem run) (WpFn 𝓤 H (𝓣 .C) (𝓣 .Λ) code.function) (WpFn-mono 𝓤 H (W .laws) 𝓣 code.function) (thin-walks 𝓤 H A W at-mem run (𝓣 .C) (𝓣 .Λ) (fmOf 𝓤 H (W .laws) 𝓣) known)
@@ -148,4 +148,4 @@ at6000-pick-up-in-spec 𝓤 H 𝓜 𝓖 𝓡 =
     entered 𝓤 H (tripleOf 𝓤 H (𝓖 .A) thin.signature (thin.spec 𝓤 H (𝓖 .A) (𝓜 .mem) (𝓡 .run)))
     (tables 𝓤 H 𝓜 𝓡 code.env .C) (tables 𝓤 H 𝓜 𝓡 code.env .Λ) #at6000·at6000-pick-up-in code.function (code.unfolded 𝓤 H 𝓜 𝓡)
     (thin-meets 𝓤 H (𝓖 .A) (givenOf 𝓤 H 𝓜 𝓖) (𝓜 .mem) (𝓡 .run) (tablesOf 𝓤 H 𝓜 (tables 𝓤 H 𝓜 𝓡 code.env))
-    (cited 𝓤 H (Step 𝓤 H (𝓖 .A) (𝓜 .mem) (𝓡 .run)) 𝓜 𝓡 code.env #at6000·pick-up-by step-def.routine code.calls-at6000·pick-up-by (step-thm.met 𝓤 H 𝓜 𝓖 𝓡)))
+    (cited 𝓤 H (Step 𝓤 H (𝓖 .A) (𝓜 .mem) (𝓡 .run)) 𝓜 𝓡 code.env #saved·pick-up step-def.routine code.calls-saved·pick-up (step-thm.met 𝓤 H 𝓜 𝓖 𝓡)))

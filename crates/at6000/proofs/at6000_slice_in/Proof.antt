@@ -1,4 +1,4 @@
--- `at6000::at6000_slice_in` meets its contract: a walk of its MIR, by hand. The borrow of the Chain is opened, the Chain is copied and passed to `slice_by` with the other parameters, of which the proof knows only that it meets its contract; the Chain of what it returns is stored in the cell, and the borrow is closed at it.
+-- `at6000::at6000_slice_in` meets its contract: a walk of its MIR, by hand. The borrow of the Chain is opened, the Chain is copied and passed to `machine::slice` with the other parameters, of which the proof knows only that it meets its contract; the Chain of what it returns is stored in the cell, and the borrow is closed at it.
 -- A `&mut` slice is given up for good, at its own lifetime, share and name: what the step says of its last list is what is said of it at exit. Of every other parameter nothing is had at exit. No machine value of a struct is written out: a record's is `LL.val` of it.
 -- Assumes nothing.
 use mathlib.Core.Path.{_≡_, refl, ap}
@@ -40,7 +40,7 @@ use denote.Triple.Spec.{Meets, tripleOf}
 use denote.Triple.Table.{entered, cited}
 use denote.Triple.Walked.{says, Stays, stay-ref, stay-dropped, gave-slice, walkOf, goes-ref, goes-dropped, goes-gave-slice, Walks, ends-at, walked, walk-meets}
 use denote.Exit.{yes}
-use Rattle.at6000.specs.InPlace.{sliced, slicedMemory}
+use Rattle.machine.specs.Calls.{Slice}
 use Rattle.chain.specs.declared.Chain.{Chain}
 use Rattle.machine.specs.declared.Fed.{Fed}
 use Rattle.chain.proofs.Chain as T
@@ -49,10 +49,10 @@ use Rattle.machine.proofs.Fed as F
 use Rattle.machine.proofs.Fed.Laws as F′
 use Rattle.machine.proofs.Answer as R
 use Rattle.machine.proofs.Answer.Laws as R′
-use Rattle.at6000.proofs.slice_by as step
-use Rattle.at6000.proofs.slice_by.Symbol as step-def
-use Rattle.at6000.proofs.slice_by.Symbol.{name as #at6000·slice-by}
-use Rattle.at6000.proofs.slice_by.Met as step-thm
+use Rattle.machine.proofs.slice as step
+use Rattle.machine.proofs.slice.Symbol as step-def
+use Rattle.machine.proofs.slice.Symbol.{name as #machine·slice}
+use Rattle.machine.proofs.slice.Met as step-thm
 use Rattle.at6000.proofs.at6000_slice_in.Key.{name as #at6000·at6000-slice-in}
 use Rattle.at6000.proofs.at6000_slice_in as thin
 use Rattle.at6000.proofs.at6000_slice_in.Statement as stated
@@ -80,14 +80,14 @@ module _ {M : Type 1} (𝓤 : URA M) (H : Heap 𝓤) (A : Atoms 𝓤) (W : Given
 
   -- what the step says of its result and of the last lists
   abbrev Says : Fed → List ℕ → Type 0
-  Says r zs₁ = (r ≡ sliced h (mem-in .now) (s-in .now)) × (zs₁ ≡ slicedMemory h (mem-in .now) (s-in .now))
+  Says r zs₁ = Slice h (mem-in .now) (s-in .now) r zs₁
 
   exits : (r : Fed) (zs₁ : List ℕ) → Says r zs₁ → length zs₁ ≡ length (mem-in .now) → Is R.the-row (r .answer) (LL.vals R.the-type R′.the-laws (r .answer))
       → ent 𝓤 (⋆ 𝓤 H A (‵ (fobs γ (T.the-row .coded .code (r .chain))) ∷ ‵ (fbor κ (Body (mem T.the-row) b o γ)) ∷ ‵ (flft κ q) ∷ (‵ (flft κ₁ q₁) ⊛ ‵ (flft κ₂ q₂) ⊛ ‵ ftrue) ∷ ‵ (finally u8 (mem-in .name) zs₁) ∷ [])) (Post (LL.val R.the-type R′.the-laws (r .answer)))
   exits r zs₁ e l₁ good =
       qed W (‵ (fobs γ (T.the-row .coded .code (r .chain))) ∷ ‵ (fbor κ (Body (mem T.the-row) b o γ)) ∷ ‵ (flft κ q) ∷ (‵ (flft κ₁ q₁) ⊛ ‵ (flft κ₂ q₂) ⊛ ‵ ftrue) ∷ ‵ (finally u8 (mem-in .name) zs₁) ∷ []) ∵
       suffices ! _ (ends-at 𝓤 H A thin.ended stayed (thin.clauses 𝓤 H A at-mem run) W (((κ, (κ₁, (κ₂, tt))), (q, (q₁, (q₂, tt))), tt, x, at), tt) (LL.val R.the-type R′.the-laws (r .answer)) (r .answer) (r .chain, (zs₁, (tt, tt))) (tt, (l₁, (tt, tt)))) $
-      says ! (ap (λ (f : Fed). f .chain) (e .0), e .1, ap (λ (f : Fed). f .answer) (e .0)) $ move ! (2 ∷ 3 ∷ []) $ join ! $ frame ! $
+      says ! e $ move ! (2 ∷ 3 ∷ []) $ join ! $ frame ! $
       feqI ! (List Val) (vptr b o ∷ []) (vptr b o ∷ []) refl $ fjoin3 ! $ nothing ! $ nothing ! $ fjoin ! $ move ! (2 ∷ 0 ∷ []) $ fjoin ! $ move ! (1 ∷ 0 ∷ []) $ fjoin ! $
       owned ! R.the-row (Is R.the-row) (LL.makes R.the-type R′.the-plain 𝓤 H A) (r .answer) _ good $ move ! (1 ∷ 0 ∷ []) $ done !
 
@@ -102,7 +102,7 @@ module _ {M : Type 1} (𝓤 : URA M) (H : Heap 𝓤) (A : Atoms 𝓤) (W : Given
   goes-step : ent 𝓤 (⋆ 𝓤 H A ((‵ (flft κ₁ q₁) ⊛ ‵ (flft κ₂ q₂) ⊛ ‵ ftrue) ∷ ‵ (T.the-row .own h (mach h ∷ [])) ∷ ‵ Rest ∷ [])) (Step 𝓤 H A at-mem run .pre to-step)
   goes-step = qed W ((‵ (flft κ₁ q₁) ⊛ ‵ (flft κ₂ q₂) ⊛ ‵ ftrue) ∷ ‵ (T.the-row .own h (mach h ∷ [])) ∷ ‵ Rest ∷ []) ∵ move ! (1 ∷ 2 ∷ []) $ fjoin ! $ move ! (1 ∷ 0 ∷ []) $ join ! $ frame ! $ done !
 
-  module _ (C : Calls 𝓤 H) (Λ : Loops 𝓤 H) (fm : FmC 𝓤 H (W .laws) C) (known : Triple 𝓤 (C #at6000·slice-by) (Step 𝓤 H A at-mem run)) where
+  module _ (C : Calls 𝓤 H) (Λ : Loops 𝓤 H) (fm : FmC 𝓤 H (W .laws) C) (known : Triple 𝓤 (C #machine·slice) (Step 𝓤 H A at-mem run)) where
     walk : ent 𝓤 (onEntry 𝓤 H A thin.signature (κ, (κ₁, (κ₂, tt))) (q, (q₁, (q₂, tt))) x at) (WpFn 𝓤 H C Λ code.function (vptr b o ∷ (sliceVal (mem-in .ptr) (length (mem-in .now))) ∷ (sliceVal (s-in .ptr) (length (s-in .now))) ∷ []) Post)
     walk =
         qed W ((‵ (flft κ q) ⊛ ‵ (flft κ₁ q₁) ⊛ ‵ (flft κ₂ q₂) ⊛ ‵ ftrue) ∷ ‵ (owns (MutRef (named 0) κ T.the-row ∷ MutSlice (named 1) κ₁ u8 ∷ ShrSlice (named 2) κ₂ u8 ∷ []) x at) ∷ []) ∵
@@ -136,11 +136,11 @@ module _ {M : Type 1} (𝓤 : URA M) (H : Heap 𝓤) (A : Atoms 𝓤) (W : Given
         keep ! (0 ∷ 1 ∷ 2 ∷ 3 ∷ 4 ∷ []) $ by ! (exits r (zs .1 .0) e l₁ (LL.owed F.the-type F′.the-laws r _ is .1 .0))))))))))))))))))
 
 module _ {M : Type 1} (𝓤 : URA M) (H : Heap 𝓤) (A : Atoms 𝓤) (W : Given 𝓤 H A) (at-mem : Memory → SProp 𝓤) (run : Routine → Fun 𝓤) where
-  thin-walks : (C : Calls 𝓤 H) (Λ : Loops 𝓤 H) → FmC 𝓤 H (W .laws) C → Triple 𝓤 (C #at6000·slice-by) (Step 𝓤 H A at-mem run) → Walks 𝓤 H A thin.ended stayed (WpFn 𝓤 H C Λ code.function) (thin.clauses 𝓤 H A at-mem run)
+  thin-walks : (C : Calls 𝓤 H) (Λ : Loops 𝓤 H) → FmC 𝓤 H (W .laws) C → Triple 𝓤 (C #machine·slice) (Step 𝓤 H A at-mem run) → Walks 𝓤 H A thin.ended stayed (WpFn 𝓤 H C Λ code.function) (thin.clauses 𝓤 H A at-mem run)
   thin-walks C Λ fm known = walked 𝓤 H A thin.ended stayed (thin.clauses 𝓤 H A at-mem run) (WpFn 𝓤 H C Λ code.function) (λ κs. (ptr-vals, (slice-vals, (slice-vals, tt)))) (λ κs. (mut-tells (named 0) (κs .0) T.the-row, (mut-slice-tells (named 1) (κs .1 .0) u8, (shr-slice-tells (named 2) (κs .1 .1 .0) u8, tt))))
       (λ κs qs bounds a _ are. via 𝓤 _ (fst∗ 𝓤 _ (emp 𝓤)) (walk 𝓤 H A W at-mem run (κs .0) (κs .1 .0) (κs .1 .1 .0) (qs .0) (qs .1 .0) (qs .1 .1 .0) (a .0 .ptr .0) (a .0 .ptr .1) (a .0 .name) (a .0 .now) (a .1 .0) (are .1 .0 .0 .1) (a .1 .1 .0) (are .1 .1 .0) C Λ fm known))
 
-thin-meets : {M : Type 1} (𝓤 : URA M) (H : Heap 𝓤) (A : Atoms 𝓤) (W : Given 𝓤 H A) (at-mem : Memory → SProp 𝓤) (run : Routine → Fun 𝓤) (𝓣 : Tables 𝓤 H) → Triple 𝓤 (𝓣 .C #at6000·slice-by) (Step 𝓤 H A at-mem run)
+thin-meets : {M : Type 1} (𝓤 : URA M) (H : Heap 𝓤) (A : Atoms 𝓤) (W : Given 𝓤 H A) (at-mem : Memory → SProp 𝓤) (run : Routine → Fun 𝓤) (𝓣 : Tables 𝓤 H) → Triple 𝓤 (𝓣 .C #machine·slice) (Step 𝓤 H A at-mem run)
     → Meets 𝓤 H A thin.signature (WpFn 𝓤 H (𝓣 .C) (𝓣 .Λ) code.function) (thin.spec 𝓤 H A at-mem run)
 thin-meets 𝓤 H A W at-mem run 𝓣 known = walk-meets 𝓤 H A thin.ended stayed W (goes-ref 𝓤 H A W 3 0 tt (plain (λ _. T.the-row)), (goes-gave-slice 𝓤 H A W 3 1 tt (plain (λ _. u8)), (goes-dropped 𝓤 H A W 3 (shrSliceOf (2 ∷ []) tt (plain (λ _. u8))) yes (λ κs x f. refl), tt)))
     (thin.clauses 𝓤 H A at-mem run) (WpFn 𝓤 H (𝓣 .C) (𝓣 .Λ) code.function) (WpFn-mono 𝓤 H (W .laws) 𝓣 code.function) (thin-walks 𝓤 H A W at-mem run (𝓣 .C) (𝓣 .Λ) (fmOf 𝓤 H (W .laws) 𝓣) known)
@@ -151,4 +151,4 @@ at6000-slice-in-spec 𝓤 H 𝓜 𝓖 𝓡 =
     entered 𝓤 H (tripleOf 𝓤 H (𝓖 .A) thin.signature (thin.spec 𝓤 H (𝓖 .A) (𝓜 .mem) (𝓡 .run)))
     (tables 𝓤 H 𝓜 𝓡 code.env .C) (tables 𝓤 H 𝓜 𝓡 code.env .Λ) #at6000·at6000-slice-in code.function (code.unfolded 𝓤 H 𝓜 𝓡)
     (thin-meets 𝓤 H (𝓖 .A) (givenOf 𝓤 H 𝓜 𝓖) (𝓜 .mem) (𝓡 .run) (tablesOf 𝓤 H 𝓜 (tables 𝓤 H 𝓜 𝓡 code.env))
-    (cited 𝓤 H (Step 𝓤 H (𝓖 .A) (𝓜 .mem) (𝓡 .run)) 𝓜 𝓡 code.env #at6000·slice-by step-def.routine code.calls-at6000·slice-by (step-thm.met 𝓤 H 𝓜 𝓖 𝓡)))
+    (cited 𝓤 H (Step 𝓤 H (𝓖 .A) (𝓜 .mem) (𝓡 .run)) 𝓜 𝓡 code.env #machine·slice step-def.routine code.calls-machine·slice (step-thm.met 𝓤 H 𝓜 𝓖 𝓡)))
