@@ -24,12 +24,17 @@ pub fn with8(xs: [u8; 8], i: u8, v: u8) -> [u8; 8]
     ys
 }
 
-// Past the first n of eight all are zero.
+// Past the first n of eight all are zero. All eight are gone through, so that the compiler has no loop to make.
 pub fn unused_zero(xs: [u8; 8], n: u8) -> bool
     ensures { λ r. ⌜ r ≡ unusedZero xs n ⌝ }
 {
-    let mut i: usize = n as usize;
+    let first = n as usize;
+    let mut i: usize = 0;
     while i < 8 {
+        if i < first {
+            i += 1;
+            continue;
+        }
         if xs[i] != 0 {
             return false;
         }

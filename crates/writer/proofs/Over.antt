@@ -72,3 +72,13 @@ then-byte u o n v e h =
 
 pub over-is : (u w o : List ℕ) → u ≡ w → over u o ≡ over w o
 over-is u w o e = rw e
+
+-- five bytes stored one by one are a front written
+pub five-stored : (a b c d e : ℕ) (o : List ℕ) → 5 ≤ length o
+    → set (set (set (set (set o 0 a) 1 b) 2 c) 3 d) 4 e ≡ over (a ∷ b ∷ c ∷ d ∷ e ∷ []) o
+five-stored a b c d e [] h = absurd (omega arith)
+five-stored a b c d e (_ ∷ []) h = absurd (omega arith)
+five-stored a b c d e (_ ∷ _ ∷ []) h = absurd (omega arith)
+five-stored a b c d e (_ ∷ _ ∷ _ ∷ []) h = absurd (omega arith)
+five-stored a b c d e (_ ∷ _ ∷ _ ∷ _ ∷ []) h = absurd (omega arith)
+five-stored a b c d e (_ ∷ _ ∷ _ ∷ _ ∷ _ ∷ o) h = refl

@@ -3,6 +3,7 @@ use crate::refusal::width;
 use cells::copy;
 use chain::paper::*;
 ghost use mathlib.Core.Path.{_≡_};
+ghost use mathlib.Core.List.{[]};
 ghost use Prim.Native.Nat.{_+_, _*_, _≤_};
 ghost use lib.ListN.{length};
 ghost use Rattle.writer.specs.Stream.{leadIn, headBytes, windowBytes, windowsBytes, streamOf};
@@ -42,17 +43,25 @@ fn head(mode: u8, control: u8, address: [u8; 3], n: usize, out: &mut [u8]) -> us
     at + 5
 }
 
+// The five bytes before a window's data, stored one by one: a block so short is not worth a copy.
+fn framing(start: u16, end: u16, out: &mut [u8])
+    requires { ⌜ 5 ≤ length (now out) ⌝ }
+    ensures { λ _. ⌜ now (out .exit) ≡ over (windowBytes start end []) (now (out .entry)) ⌝ }
+{
+    out[0] = NULL;
+    out[1] = (start / 256) as u8;
+    out[2] = (start % 256) as u8;
+    out[3] = (end / 256) as u8;
+    out[4] = (end % 256) as u8;
+}
+
 // One window.
 fn window(start: u16, end: u16, cells: &[u8], out: &mut [u8]) -> usize
     requires { ⌜ 5 + length (now cells) ≤ length (now out) ⌝ }
     ensures { λ r. ⌜ r ≡ 5 + length (now (cells .entry)) ⌝ }
     ensures { λ _. ⌜ now (out .exit) ≡ over (windowBytes start end (now (cells .entry))) (now (out .entry)) ⌝ }
 {
-    let start_high = (start / 256) as u8;
-    let start_low = (start % 256) as u8;
-    let end_high = (end / 256) as u8;
-    let end_low = (end % 256) as u8;
-    copy(out, &[NULL, start_high, start_low, end_high, end_low]);
+    framing(start, end, out);
     copy(&mut out[5..], cells);
     5 + cells.len()
 }

@@ -1,33 +1,30 @@
-use Prim.Native.Nat.{_+_, _≤_, _<_, _-_}
-use mathlib.Core.Path.{_≡_, refl, sym, _∙_}
+use Prim.Native.Nat.{ℕ, _+_, _≤_, _<_, _-_}
+use mathlib.Core.Bool.{Bool}
+use mathlib.Core.List.{List}
+use mathlib.Core.Path.{_≡_, refl, sym, ap, _∙_}
 use native.Mathlib.Omega.{arith}
 use borrow.Author.Needs.{needs}
 use lib.ListN.{length, drop, getD}
 use Rattle.chain.specs.State.{zeros, unusedZero}
-use Rattle.chain.specs.Kinds.{knownOf}
 use Rattle.chain.proofs.Tests.{tests}
-use Rattle.chain.proofs.Turns.{known-turn, known-past, known-end, zeros-turn, zeros-end}
+use Rattle.chain.proofs.Turns.{zeros-turn, zeros-end}
 use Rattle.chain.proofs.eight.unused_zero.Statement.{statement}
 use Rattle.chain.proofs.eight.unused_zero.Tie as tie
 use Rattle.chain.proofs.eight.unused_zero.Reads as reads
 use Rattle.chain.proofs.eight.unused_zero.Lts as lts
 
+-- all from the element k on are zero
+abbrev zeros-from : List ℕ → ℕ → Bool
+zeros-from xs k = zeros (drop k xs)
+
 abbrev Inv-loop : tie.InvT-loop
-Inv-loop n xs i₀ i = zeros (drop n xs) ≡ zeros (drop i xs)
+Inv-loop n xs first i₀ i = zeros-from xs n ≡ zeros-from xs (n + (i - n))
 
 abbrev μ-loop : tie.MeasureT-loop
-μ-loop n xs i₀ i = 8 - i
+μ-loop n xs first i₀ i = 8 - i
 
 loop-holds : tie.Need-loop-holds Inv-loop μ-loop
-loop-holds c = search needs
-
-array-read-if1 : tie.Need-array-read-if1 Inv-loop μ-loop
-array-read-if1 c = search needs
-
-returns : tie.Need-returns Inv-loop μ-loop
-unfolding unusedZero
-returns c = let eight : length (c .before .before .before .args .t1) ≡ 8 = search needs in
-    sym (c .before .before .loop .inv ∙ zeros-turn (c .before .before .before .args .t1) (c .before .before .loop .i) (omega arith) ∙ search tests)
+loop-holds c = ap (zeros-from (c .args .t1)) {x = c .args .n} {y = c .args .n + (0 - c .args .n)} (omega arith)
 
 add-i : tie.Need-add-i Inv-loop μ-loop
 add-i c = search needs
@@ -36,13 +33,39 @@ loop-less : tie.Need-loop-less Inv-loop μ-loop
 loop-less c = search needs
 
 loop-again : tie.Need-loop-again Inv-loop μ-loop
-loop-again c = let eight : length (c .before .before .before .args .t1) ≡ 8 = search needs in
-    c .before .before .loop .inv ∙ zeros-turn (c .before .before .before .args .t1) (c .before .before .loop .i) (omega arith) ∙ search tests
+loop-again c = let l = c .before .before .loop in
+    let a = c .before .before .before .args in
+    l .inv ∙ ap (zeros-from (a .t1)) {x = a .n + (l .i - a .n)} {y = a .n + (l .i + 1 - a .n)} (omega arith)
+
+array-read-if2 : tie.Need-array-read-if2 Inv-loop μ-loop
+array-read-if2 c = search needs
+
+returns : tie.Need-returns Inv-loop μ-loop
+unfolding unusedZero
+returns c = let l = c .before .before .before .loop in
+    let a = c .before .before .before .before .args in
+    let eight : length (a .t1) ≡ 8 = search needs in
+    sym (l .inv ∙ ap (zeros-from (a .t1)) {x = a .n + (l .i - a .n)} {y = l .i} (omega arith) ∙ zeros-turn (a .t1) (l .i) (omega arith) ∙ search tests)
+
+add-i-2 : tie.Need-add-i-2 Inv-loop μ-loop
+add-i-2 c = search needs
+
+loop-less-2 : tie.Need-loop-less-2 Inv-loop μ-loop
+loop-less-2 c = search needs
+
+loop-again-2 : tie.Need-loop-again-2 Inv-loop μ-loop
+loop-again-2 c = let l = c .before .before .before .loop in
+    let a = c .before .before .before .before .args in
+    let eight : length (a .t1) ≡ 8 = search needs in
+    l .inv ∙ ap (zeros-from (a .t1)) {x = a .n + (l .i - a .n)} {y = l .i} (omega arith) ∙ zeros-turn (a .t1) (l .i) (omega arith) ∙ search tests
+    ∙ ap (zeros-from (a .t1)) {x = l .i + 1} {y = a .n + (l .i + 1 - a .n)} (omega arith)
 
 returns-2 : tie.Need-returns-2 Inv-loop μ-loop
 unfolding unusedZero
-returns-2 c = let eight : length (c .before .before .args .t1) ≡ 8 = search needs in
-    sym (c .before .loop .inv ∙ zeros-end (c .before .before .args .t1) (c .before .loop .i) (omega arith))
+returns-2 c = let l = c .before .loop in
+    let a = c .before .before .args in
+    let eight : length (a .t1) ≡ 8 = search needs in
+    sym (l .inv ∙ zeros-end (a .t1) (a .n + (l .i - a .n)) (omega arith))
 
 pub unused-zero-spec : {M : Type 1} → statement M
 unused-zero-spec =
@@ -51,9 +74,12 @@ unused-zero-spec =
     Inv-loop
     μ-loop
     loop-holds
-    array-read-if1
-    returns
     add-i
     loop-less
     loop-again
+    array-read-if2
+    returns
+    add-i-2
+    loop-less-2
+    loop-again-2
     returns-2)

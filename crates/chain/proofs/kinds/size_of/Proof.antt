@@ -1,71 +1,82 @@
-use Prim.Native.Nat.{_≤_, _-_}
-use mathlib.Core.Path.{_≡_, sym, _∙_}
+use Rattle.chain.specs.Kinds.{sizeOf}
+use Rattle.chain.proofs.Tests.{tests}
 use borrow.Author.Needs.{needs}
-use borrow.Author.Tests.{eq-eqb, ne-eqb}
-use lib.ListN.{drop}
-use native.Mathlib.Omega.{arith}
-use Rattle.chain.specs.Kinds.{sizeOf, lookup, kinds, sizes}
-use Rattle.chain.proofs.Lookup.{lookup-cons}
 use Rattle.chain.proofs.kinds.size_of.Statement.{statement}
 use Rattle.chain.proofs.kinds.size_of.Tie as tie
 use Rattle.chain.proofs.kinds.size_of.Reads as reads
 use Rattle.chain.proofs.kinds.size_of.Lts as lts
 
-abbrev Inv-loop : tie.InvT-loop
-Inv-loop kind i₀ i = (i ≤ 5) × (sizeOf kind ≡ lookup (drop i kinds) (drop i sizes) kind)
-
-abbrev μ-loop : tie.MeasureT-loop
-μ-loop kind i₀ i = 5 - i
-
-loop-holds : tie.Need-loop-holds Inv-loop μ-loop
-unfolding sizeOf
-loop-holds c = search needs
-
-array-read-if1 : tie.Need-array-read-if1 Inv-loop μ-loop
+array-read-if1 : tie.Need-array-read-if1
 array-read-if1 c = search needs
 
-mul-result : tie.Need-mul-result Inv-loop μ-loop
-mul-result c = search needs
-
-array-read-result : tie.Need-array-read-result Inv-loop μ-loop
+array-read-result : tie.Need-array-read-result
 array-read-result c = search needs
 
-returns : tie.Need-returns Inv-loop μ-loop
-returns c =
-    sym
-    (simp (eq-eqb _ _ (c .if1 .taken)) at
-    (c .before .before .loop .inv .1 ∙ lookup-cons kinds sizes _ (c .before .before .loop .i) (search needs) (search needs)))
+returns : tie.Need-returns
+unfolding sizeOf
+returns c = search tests
 
-add-i : tie.Need-add-i Inv-loop μ-loop
-add-i c = search needs
+array-read-if2 : tie.Need-array-read-if2
+array-read-if2 c = search needs
 
-loop-less : tie.Need-loop-less Inv-loop μ-loop
-loop-less c = search needs
+array-read-result-2 : tie.Need-array-read-result-2
+array-read-result-2 c = search needs
 
-loop-again : tie.Need-loop-again Inv-loop μ-loop
-loop-again c = (
-  search needs,
-  simp (ne-eqb _ _ (c .if1 .left)) at
-      (c .before .before .loop .inv .1 ∙ lookup-cons kinds sizes _ (c .before .before .loop .i) (search needs) (search needs)),
-)
+returns-2 : tie.Need-returns-2
+unfolding sizeOf
+returns-2 c = search tests
 
-returns-2 : tie.Need-returns-2 Inv-loop μ-loop
-returns-2 c =
-    let five : c .before .loop .i ≡ 5 = omega arith in
-    sym (simp five at (c .before .loop .inv .1))
+array-read-if3 : tie.Need-array-read-if3
+array-read-if3 c = search needs
+
+array-read-result-3 : tie.Need-array-read-result-3
+array-read-result-3 c = search needs
+
+returns-3 : tie.Need-returns-3
+unfolding sizeOf
+returns-3 c = search tests
+
+array-read-if4 : tie.Need-array-read-if4
+array-read-if4 c = search needs
+
+array-read-result-4 : tie.Need-array-read-result-4
+array-read-result-4 c = search needs
+
+returns-4 : tie.Need-returns-4
+unfolding sizeOf
+returns-4 c = search tests
+
+array-read-if5 : tie.Need-array-read-if5
+array-read-if5 c = search needs
+
+array-read-result-5 : tie.Need-array-read-result-5
+array-read-result-5 c = search needs
+
+returns-5 : tie.Need-returns-5
+unfolding sizeOf
+returns-5 c = search tests
+
+returns-6 : tie.Need-returns-6
+unfolding sizeOf
+returns-6 c = search tests
 
 pub size-of-spec : {M : Type 1} → statement M
 size-of-spec =
     tie.close
     (tie.spec
-    Inv-loop
-    μ-loop
-    loop-holds
     array-read-if1
-    mul-result
     array-read-result
     returns
-    add-i
-    loop-less
-    loop-again
-    returns-2)
+    array-read-if2
+    array-read-result-2
+    returns-2
+    array-read-if3
+    array-read-result-3
+    returns-3
+    array-read-if4
+    array-read-result-4
+    returns-4
+    array-read-if5
+    array-read-result-5
+    returns-5
+    returns-6)
