@@ -1,22 +1,29 @@
-# make demo   a controller's main loop in C: stop, close, start afresh; save, power off, pick up
-# make test   the listing program on its inputs, the C example; then every proof, must-fail edit and program, from nothing: the last line is rt's own
+# make demo   lists a sample stream, then runs a controller's main loop in C: stop, close, start afresh; save, power off, pick up
+# make test   the C example, the comparison with the model, the listing program on its inputs; then every proof, must-fail edit and program, from nothing: the last line is rt's own
 # make lib    the archive for C: target/staticlib/libat6000.a
+# make bench  the archive against safe Rust and memcpy (docs/SPEED.md)
 # make fmt    lay out the Rattle sources
-.PHONY: demo test lib fmt
+.PHONY: demo test lib bench fmt
 
 archive = target/staticlib/libat6000.a
+listing = target/bin/listing
 
 demo: lib
+	rt check listing
+	sh examples/list.sh $(listing)
 	sh examples/run.sh $(archive)
 
 test: lib
 	sh examples/run.sh $(archive) | diff examples/controller.out -
 	rt check listing
-	sh tests/listing/run.sh target/bin/listing
+	sh tests/listing/run.sh $(listing)
 	rt ci
 
 lib:
 	rt staticlib at6000
+
+bench: lib
+	sh bench/run.sh $(archive)
 
 fmt:
 	rt fmt

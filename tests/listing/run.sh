@@ -1,6 +1,6 @@
 #!/bin/sh
-# run.sh PROGRAM [CASES]: runs the listing program on every input of cases.txt (or of CASES) through a pipe, and compares what it writes. Where
-# this machine cannot run it, the emulator of the kit that the command rt belongs to does. Prints one line; exit status 1 where something differs.
+# run.sh PROGRAM [CASES]: runs the listing program on every input of cases.txt (or of CASES) through a pipe, and compares what it writes.
+# Prints one line; exit status 1 where something differs.
 set -u
 LC_ALL=C
 export LC_ALL
@@ -13,15 +13,7 @@ cases=${2:-$(dirname "$0")/cases.txt}
 [ -x "$program" ] || die "no program at $program"
 [ -f "$cases" ] || die "no cases at $cases"
 
-# programs are for x86-64
-if [ "$(uname -m)" = x86_64 ]; then
-    run() { "$program"; }
-else
-    guide=$(rt doc) || die "no command rt, so no emulator"
-    tools=${guide%/docs/*}/on/$(uname -m)/toolchain
-    [ -x "$tools/bin/qemu-x86_64" ] || die "no emulator at $tools/bin"
-    run() { "$tools/bin/qemu-x86_64" "$tools/lib/ld-linux-x86-64.so.2" --library-path "$tools/lib" "$program"; }
-fi
+run() { sh "$(dirname "$0")/../../tools/x86.sh" run "$program"; }
 
 room=$(mktemp -d) || exit 1
 trap 'rm -rf "$room"' EXIT
