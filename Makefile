@@ -15,6 +15,7 @@ demo: lib
 
 test: lib
 	sh examples/run.sh $(archive) | diff examples/controller.out -
+	sh tests/compare/run.sh $(archive)
 	rt check listing
 	sh tests/listing/run.sh $(listing)
 	rt ci

@@ -1,6 +1,5 @@
 -- A place with one field replaced, and a chain likewise: antt has no record update. Assumes nothing.
 use Prim.Native.Nat.{ℕ}
-use mathlib.Core.List.{List}
 use Rattle.chain.specs.declared.Chain.{Chain}
 use Rattle.chain.specs.declared.Place.{Place}
 
@@ -46,9 +45,6 @@ with·mismatches p v =
 
 abbrev pub with·place : Chain → Place → Chain
 with·place c p = record { count = c .count; kinds = c .kinds; registers = c .registers; place = p }
-
-abbrev pub with·registers : Chain → List ℕ → Chain
-with·registers c g = record { count = c .count; kinds = c .kinds; registers = g; place = c .place }
 
 -- no run open: every field zero
 abbrev pub closedPlace : Place

@@ -10,7 +10,6 @@ use borrow.Author.Tests.{eqb-true, ltb-true, ltb-false}
 use Rattle.chain.specs.declared.Chain.{Chain}
 use Rattle.chain.specs.Paper.{at·check, writing, checking, barred, more, B4}
 use Rattle.chain.specs.Rules.{pick, Rule, _gives_, firstOf}
-use Rattle.chain.specs.Set.{with·registers}
 use Rattle.chain.proofs.ByCases.{by-test}
 use Rattle.machine.specs.Byte.{awaits, checks, begins, nextDevice, registerBegun, byteRules, numberOf}
 use Rattle.machine.specs.Run.{writes, addressOf, missedOf, stepOf, runOf}
@@ -18,6 +17,7 @@ use Rattle.machine.proofs.Kept.{step-check}
 use Rattle.demands.specs.Grammar.{Target, registers, Slot, nowhere, index, slot, after}
 use Rattle.demands.proofs.Along.{aim, sentOf, put, putAll, run-puts}
 use Rattle.demands.proofs.Accepted.{Accepted, last, next}
+use Rattle.demands.proofs.OtherRegisters.{with·registers}
 use Rattle.demands.proofs.Puts.{length-put, getD-put}
 
 -- B4 of the second is clear where that of the first is: what the one lets through, the other does

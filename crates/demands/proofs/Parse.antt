@@ -12,12 +12,13 @@ use Rattle.chain.specs.declared.Chain.{Chain}
 use Rattle.chain.specs.declared.Place.{Place}
 use Rattle.chain.specs.Paper.{preamble, postamble, no-windows, at·preamble, at·second, at·control, at·address, at·address2, at·address3, at·count, at·null, at·check, two-preambles, B2}
 use Rattle.chain.specs.Rules.{pick}
-use Rattle.chain.specs.Set.{with·place, with·registers, with·awaited, with·left, with·control, with·device}
+use Rattle.chain.specs.Set.{with·place, with·awaited, with·left, with·control, with·device}
 use Rattle.chain.proofs.ByCases.{by-test}
 use Rattle.machine.specs.Byte.{nextDevice, advanceOf}
 use Rattle.machine.specs.Run.{registersOf, missedOf, wentOn}
 use Rattle.machine.specs.Calls.{openedPlace}
 use Rattle.demands.specs.Grammar.{sizeAt, baseAt, register, Sent, frame, Section, windowsSent, sectionSent, sectionsSent, streamSent, bytesOf, AllFit, SectionFits, SectionsFit, Bytes}
+use Rattle.demands.proofs.OtherRegisters.{with·registers}
 use Rattle.demands.proofs.Along.{sentOf}
 use Rattle.demands.proofs.Accepted.{Accepted, accepted-bytes}
 use Rattle.demands.proofs.Read.{Clean, GoesOn, on, AtCheck, over, onward, at-check, Left, left-both, OneLeft, one}

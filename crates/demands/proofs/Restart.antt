@@ -10,11 +10,12 @@ use lib.ListN.{length, take}
 use borrow.Author.Tests.{eq-eqb}
 use Rattle.chain.specs.declared.Chain.{Chain}
 use Rattle.chain.specs.Paper.{writing, done, more}
-use Rattle.chain.specs.Set.{with·place, with·registers}
+use Rattle.chain.specs.Set.{with·place}
 use Rattle.machine.specs.Run.{writes, Run, run, stepOf, runOf}
 use Rattle.machine.specs.Calls.{openedPlace}
 use Rattle.machine.proofs.Taken.{looked, first-on, looked-on, run-taken}
 use Rattle.demands.specs.Grammar.{Sent, memory, registers}
+use Rattle.demands.proofs.OtherRegisters.{with·registers}
 use Rattle.demands.proofs.Along.{sentOf, putAll, run-puts, sent-take}
 use Rattle.demands.proofs.Accepted.{Accepted, accepted-done, accepted-open}
 use Rattle.demands.proofs.Puts.{length-putAll, putAll-again}

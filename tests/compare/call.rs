@@ -1,0 +1,138 @@
+//! A call with all that it is lent, and what the model says of it.
+
+use crate::model::chain::{new, reset, Chain, Made, Place};
+use crate::model::closing::closing;
+use crate::model::hunt::hunt;
+use crate::model::lister::{list, Listed, Tables};
+use crate::model::machine::{byte, slice, start, Fed};
+use crate::model::numbers::DONE;
+use crate::model::output::Written;
+use crate::model::saved::{pick_up, save};
+use crate::model::writer::{write, Order};
+
+/// An output before the call: how long, and the pattern that a refusal has to leave in it.
+#[derive(Clone, Copy, Debug)]
+pub struct Room {
+    pub length: usize,
+    pub fill: u8,
+}
+
+impl Room {
+    pub fn bytes(&self) -> Vec<u8> {
+        pattern(self.length, self.fill)
+    }
+}
+
+/// The pattern that archive.c puts into an output.
+pub fn pattern(length: usize, fill: u8) -> Vec<u8> {
+    (0..length).map(|index| fill.wrapping_add((31 * index) as u8)).collect()
+}
+
+#[derive(Clone, Debug)]
+pub enum Call {
+    New { count: u8, kinds: [u8; 8], memory: Vec<u8> },
+    Reset { chain: Chain, memory: Vec<u8> },
+    Start { chain: Chain, memory: Vec<u8>, mode: u8, check: u8 },
+    Byte { chain: Chain, memory: Vec<u8>, byte: u8 },
+    Slice { chain: Chain, memory: Vec<u8>, stream: Vec<u8> },
+    Closing { chain: Chain, memory: Vec<u8>, room: Room },
+    Save { chain: Chain, memory: Vec<u8>, room: Room },
+    PickUp { chain: Chain, memory: Vec<u8>, saved: Vec<u8> },
+    Hunt { stream: Vec<u8>, room: Room },
+    Write { order: Order, room: Room },
+    List { kind: u8, mode: u8, stream: Vec<u8>, lengths: [usize; 3], fill: u8 },
+}
+
+/// A part of a reply, in the order in which archive.c puts them.
+#[derive(Clone, PartialEq, Debug)]
+pub enum Part {
+    Made(Made),
+    Fed(Fed),
+    Written(Written),
+    Listed(Listed),
+    Memory(Vec<u8>),
+    Output(Vec<u8>),
+    Starts(Vec<u16>),
+    Ends(Vec<u16>),
+    Offsets(Vec<u32>),
+}
+
+impl Part {
+    pub fn number(&self) -> Option<u8> {
+        match self {
+            Part::Made(made) => Some(made.number),
+            Part::Fed(fed) => Some(fed.answer.number),
+            Part::Written(written) => Some(written.number),
+            Part::Listed(listed) => Some(listed.number),
+            _ => None,
+        }
+    }
+}
+
+/// What the model says: answers, states, memory and outputs after. An in-place call follows its twin with the same
+/// parts.
+pub fn by_model(call: &Call) -> Vec<Part> {
+    match call {
+        Call::New { count, kinds, memory } => vec![Part::Made(new(*count, kinds, memory))],
+        Call::Reset { chain, memory } => {
+            let mut memory = memory.clone();
+            vec![Part::Made(reset(*chain, &mut memory)), Part::Memory(memory)]
+        }
+        Call::Start { chain, memory, mode, check } => {
+            let made = start(*chain, memory.len(), *mode, *check);
+            vec![Part::Made(made), Part::Made(made)]
+        }
+        Call::Byte { chain, memory, byte: one } => {
+            let mut memory = memory.clone();
+            vec![Part::Fed(byte(*chain, &mut memory, *one)), Part::Memory(memory)]
+        }
+        Call::Slice { chain, memory, stream } => {
+            let mut memory = memory.clone();
+            let fed = slice(*chain, &mut memory, stream);
+            vec![Part::Fed(fed), Part::Memory(memory.clone()), Part::Fed(fed), Part::Memory(memory)]
+        }
+        Call::Closing { chain, memory, room } => {
+            let mut output = room.bytes();
+            vec![Part::Written(closing(chain, memory, &mut output)), Part::Output(output)]
+        }
+        Call::Save { chain, memory, room } => {
+            let mut output = room.bytes();
+            let written = save(chain, memory.len(), &mut output);
+            let mut parts = vec![Part::Written(written), Part::Output(output)];
+            if written.number == DONE {
+                // "Picking up into a state with no open run, same chain and memory, gives the state saved".
+                parts.push(Part::Made(Made { chain: *chain, number: DONE }));
+            }
+            parts
+        }
+        Call::PickUp { chain, memory, saved } => {
+            let made = pick_up(*chain, memory.len(), saved);
+            vec![Part::Made(made), Part::Made(made)]
+        }
+        Call::Hunt { stream, room } => {
+            let mut output = room.bytes();
+            vec![Part::Written(hunt(stream, &mut output)), Part::Output(output)]
+        }
+        Call::Write { order, room } => {
+            let mut output = room.bytes();
+            vec![Part::Written(write(order, &mut output)), Part::Output(output)]
+        }
+        Call::List { kind, mode, stream, lengths, fill } => {
+            let words = |length| {
+                let bytes = pattern(2 * length, *fill);
+                bytes.chunks(2).map(|two| u16::from_le_bytes([two[0], two[1]])).collect()
+            };
+            let wide = pattern(4 * lengths[2], *fill);
+            let offsets = wide.chunks(4).map(|four| u32::from_le_bytes([four[0], four[1], four[2], four[3]])).collect();
+            let mut tables = Tables { starts: words(lengths[0]), ends: words(lengths[1]), offsets };
+            let listed = list(*kind, *mode, stream, &mut tables);
+            let Tables { starts, ends, offsets } = tables;
+            vec![Part::Listed(listed), Part::Starts(starts), Part::Ends(ends), Part::Offsets(offsets)]
+        }
+    }
+}
+
+/// The same chain with no run open.
+pub fn without_run(chain: &Chain) -> Chain {
+    Chain { place: Place::default(), ..*chain }
+}

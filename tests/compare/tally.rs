@@ -1,0 +1,188 @@
+//! How often each call gave each number, and at which awaited bytes closing and byte met an open run; what a run of the
+//! comparison must have met.
+
+use crate::call::{Call, Part};
+use crate::model::numbers::*;
+
+const NAMES: [&str; 14] = [
+    "new",
+    "reset",
+    "start",
+    "byte",
+    "slice",
+    "closing",
+    "save",
+    "pick_up",
+    "hunt",
+    "write",
+    "list",
+    "start_in",
+    "slice_in",
+    "pick_up_in",
+];
+
+const RUNS: [&str; 4] = ["closing write", "closing check", "byte write", "byte check"];
+
+const AWAITED: [&str; 14] = [
+    "byte at 0",
+    "byte at 1",
+    "byte at 2",
+    "byte at 3",
+    "byte at 4",
+    "byte at 5",
+    "byte at 6",
+    "byte at 7",
+    "byte at 8",
+    "byte at 9",
+    "byte at 10",
+    "byte at 11",
+    "byte at 12",
+    "byte at 13",
+];
+
+/// The numbers that each call can give: all of them must be met, and no other may be.
+const NUMBERS: [&[u8]; 14] = [
+    &[0, 1],
+    &[0, 1],
+    &[0, 1, 2, 3, 17],
+    &[0, 1, 4, 5, 6, 7, 8, 9, 10, 11, 12, 16, 17],
+    &[0, 1, 4, 5, 6, 7, 8, 9, 10, 11, 12, 16, 17],
+    &[0, 1, 4, 15, 17],
+    &[0, 1, 4, 15, 17],
+    &[0, 1, 3, 17],
+    &[0, 5, 15],
+    &[0, 1, 2, 11, 12, 13, 14, 15],
+    &[0, 1, 2, 5, 8, 9, 10, 11, 12, 15, 16],
+    &[0, 1, 2, 3, 17],
+    &[0, 1, 4, 5, 6, 7, 8, 9, 10, 11, 12, 16, 17],
+    &[0, 1, 3, 17],
+];
+
+/// The numbers that a byte call can give at each awaited byte of an open run; 6 and 7 at the preamble, in mode 6 at the
+/// second, and at the check byte.
+const AT: [&[u8]; 14] = [
+    &[5, 6, 7, 16],
+    &[5, 6, 7, 16],
+    &[7, 16],
+    &[16],
+    &[16],
+    &[16],
+    &[16],
+    &[16],
+    &[16],
+    &[11, 16],
+    &[16],
+    &[12, 16],
+    &[16],
+    &[0, 6, 7, 8, 9, 10, 16],
+];
+
+const PICK_UP: usize = 7;
+
+/// The row of a call, and that of its in-place twin.
+pub fn rows(call: &Call) -> (usize, Option<usize>) {
+    match call {
+        Call::New { .. } => (0, None),
+        Call::Reset { .. } => (1, None),
+        Call::Start { .. } => (2, Some(11)),
+        Call::Byte { .. } => (3, None),
+        Call::Slice { .. } => (4, Some(12)),
+        Call::Closing { .. } => (5, None),
+        Call::Save { .. } => (6, None),
+        Call::PickUp { .. } => (PICK_UP, Some(13)),
+        Call::Hunt { .. } => (8, None),
+        Call::Write { .. } => (9, None),
+        Call::List { .. } => (10, None),
+    }
+}
+
+pub fn name(call: &Call) -> &'static str {
+    NAMES[rows(call).0]
+}
+
+#[derive(Default)]
+pub struct Tally {
+    numbers: [[u64; 18]; 14],
+    /// closing write, closing check, byte write, byte check
+    awaited: [[u64; 14]; 4],
+    /// The numbers of byte, by awaited byte.
+    at: [[u64; 18]; 14],
+}
+
+impl Tally {
+    pub fn count(&mut self, call: &Call, parts: &[Part]) {
+        let (row, twin) = rows(call);
+        let mut answers = parts.iter().filter_map(Part::number);
+        let first = answers.next().unwrap_or(0);
+        self.numbers[row][first as usize] += 1;
+        for (second, number) in answers.enumerate() {
+            // A save that was done is picked up at once.
+            let row = if second == 0 { twin.unwrap_or(PICK_UP) } else { continue };
+            self.numbers[row][number as usize] += 1;
+        }
+        let (table, place) = match call {
+            Call::Closing { chain, .. } => (0, &chain.place),
+            Call::Byte { chain, .. } => (2, &chain.place),
+            _ => return,
+        };
+        // Neither the state nor the memory was refused, and a run is open.
+        if ![BAD_CHAIN, ILL_FORMED, NO_RUN].contains(&first) {
+            let run = self.awaited.get_mut(table + place.check as usize);
+            if let Some(count) = run.and_then(|row| row.get_mut(place.awaited as usize)) {
+                *count += 1;
+            }
+            if let (2, Some(row)) = (table, self.at.get_mut(place.awaited as usize)) {
+                row[first as usize] += 1;
+            }
+        }
+    }
+
+    pub fn calls(&self) -> u64 {
+        self.numbers.iter().flatten().sum()
+    }
+
+    pub fn print(&self) {
+        println!("How often each call gave each number:");
+        table(&NAMES, &self.numbers);
+        println!("Open runs met, by awaited byte:");
+        table(&RUNS, &self.awaited);
+        println!("How often a byte of an open run gave each number, by awaited byte:");
+        table(&AWAITED, &self.at);
+    }
+
+    /// What should have been met and was not, or the other way round.
+    pub fn complaints(&self) -> Vec<String> {
+        let mut complaints = Vec::new();
+        hold(&NAMES, &self.numbers, &NUMBERS, &mut complaints);
+        hold(&AWAITED, &self.at, &AT, &mut complaints);
+        for (name, counts) in RUNS.iter().zip(&self.awaited) {
+            for (awaited, _) in counts.iter().enumerate().filter(|(_, &count)| count == 0) {
+                complaints.push(format!("{name} never met an open run at {awaited}"));
+            }
+        }
+        complaints
+    }
+}
+
+/// Holds counts of numbers to the numbers that can be given.
+fn hold<const N: usize>(names: &[&str; N], counts: &[[u64; 18]; N], can: &[&[u8]; N], complaints: &mut Vec<String>) {
+    for row in 0..N {
+        for (number, &count) in counts[row].iter().enumerate() {
+            match (can[row].contains(&(number as u8)), count) {
+                (true, 0) => complaints.push(format!("{} never gave {number}", names[row])),
+                (false, 1..) => complaints.push(format!("{} gave {number}, which it cannot", names[row])),
+                _ => (),
+            }
+        }
+    }
+}
+
+fn table<const N: usize, const M: usize>(names: &[&str; N], counts: &[[u64; M]; N]) {
+    let line = |name: &str, entries: Vec<String>| {
+        println!("{name:<14}{}", entries.iter().map(|entry| format!("{entry:>7}")).collect::<String>())
+    };
+    line("", (0..M).map(|number| number.to_string()).collect());
+    for (name, counts) in names.iter().zip(counts) {
+        line(name, counts.iter().map(|&count| if count == 0 { ".".to_string() } else { count.to_string() }).collect());
+    }
+}
