@@ -11,16 +11,13 @@ use lib.Dec.{eqb, lit≤}
 use Rattle.chain.specs.declared.Chain.{Chain}
 use Rattle.chain.specs.declared.Place.{Place}
 use Rattle.chain.specs.Paper.{at·second, at·control, at·count, at·null, at·start, at·start-low, at·end, at·end-low, at·data, at·check, writing, checking, first-mode, two-preambles, B3, B4}
-use Rattle.chain.specs.Kinds.{sizeOf}
+use Rattle.chain.specs.Kinds.{sizeAt}
 use Rattle.chain.specs.State.{unusedZero, formed, wellFormed}
 use Rattle.chain.proofs.ByCases.{by-test, no-case, _or_, below}
 use Rattle.chain.proofs.Means.{says, said, reads}
 use Rattle.chain.proofs.AllOf.{none, _and_, all-each, each-all, each-row}
 
--- the size of the device of a place, and its stored register
-abbrev pub placeSize : Chain → Place → ℕ
-placeSize c p = sizeOf (getD (c .kinds) (p .device) 0)
-
+-- the stored register of the device of a place
 abbrev pub placeRegister : List ℕ → Place → ℕ
 placeRegister g p = getD g (p .device) 0
 
@@ -46,9 +43,9 @@ pub record Formed (c : Chain) (g : List ℕ) (p : Place) : Type 0 where
   pub windows : at·null ≤ p .awaited → p .awaited ≤ at·data → 1 ≤ p .left
   pub before-start : at·null ≤ p .awaited → p .awaited ≤ at·start → (p .start ≡ 0) × (p .end ≡ 0) × (p .next ≡ 0)
   pub at-start-low : p .awaited ≡ at·start-low → (p .start % 256 ≡ 0) × (p .end ≡ 0) × (p .next ≡ 0)
-  pub at-end : p .awaited ≡ at·end → (p .start < placeSize c p) × (p .end ≡ 0) × (p .next ≡ 0)
-  pub at-end-low : p .awaited ≡ at·end-low → (p .start < placeSize c p) × (p .end % 256 ≡ 0) × (p .next ≡ 0)
-  pub at-data : p .awaited ≡ at·data → (p .start ≤ p .next) × (p .next ≤ p .end) × (p .end < placeSize c p)
+  pub at-end : p .awaited ≡ at·end → (p .start < sizeAt c (p .device)) × (p .end ≡ 0) × (p .next ≡ 0)
+  pub at-end-low : p .awaited ≡ at·end-low → (p .start < sizeAt c (p .device)) × (p .end % 256 ≡ 0) × (p .next ≡ 0)
+  pub at-data : p .awaited ≡ at·data → (p .start ≤ p .next) × (p .next ≤ p .end) × (p .end < sizeAt c (p .device))
   pub at-control : p .awaited ≡ at·control → B4 (placeRegister g p) ≡ false
   pub at-control-check : p .awaited ≡ at·control → p .check ≡ checking → B3 (placeRegister g p) ≡ false
 
@@ -58,7 +55,7 @@ Idle p = (p .awaited ≤ at·count → NoWindow p) × (p .awaited ≡ at·check 
 
 module _ (c : Chain) (g : List ℕ) (p : Place) where
   abbrev rows : List Bool
-  rows = formed p (c .count) (unusedZero g (c .count)) (placeRegister g p) (placeSize c p)
+  rows = formed p (c .count) (unusedZero g (c .count)) (placeRegister g p) (sizeAt c (p .device))
 
   pub formed-of : wellFormed c g p ≡ true → Formed c g p
   unfolding wellFormed

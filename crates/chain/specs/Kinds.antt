@@ -3,6 +3,8 @@ use Prim.Native.Nat.{ℕ, zero, suc, _+_}
 use mathlib.Core.Bool.{Bool, true, not, _&&_}
 use mathlib.Core.List.{List, [], _∷_}
 use lib.Dec.{eqb}
+use lib.ListN.{getD}
+use Rattle.chain.specs.declared.Chain.{Chain}
 use Rattle.chain.specs.Rules.{pick}
 
 -- the guide's teaching array, and Table 3's mode 1 sizes less 12 bytes of framing
@@ -21,6 +23,10 @@ lookup (k ∷ ks) (v ∷ vs) x = pick (eqb k x) v (lookup ks vs x)
 -- the bytes of memory of a kind, 0 for an unknown one
 unfoldable pub sizeOf : ℕ → ℕ
 sizeOf k = lookup kinds sizes k
+
+-- the size of a chain's device d
+abbrev pub sizeAt : Chain → ℕ → ℕ
+sizeAt c d = sizeOf (getD (c .kinds) d 0)
 
 -- the memories lie one after another: the sizes of the first n kinds in all, which is where the memory of device n begins
 unfoldable pub baseOf : List ℕ → ℕ → ℕ

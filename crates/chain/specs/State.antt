@@ -8,7 +8,7 @@ use Rattle.chain.specs.declared.Chain.{Chain}
 use Rattle.chain.specs.declared.Place.{Place}
 use Rattle.chain.specs.Paper.{at·preamble, at·second, at·control, at·count, at·null, at·start, at·start-low, at·end, at·end-low, at·data, at·check, closed, opened, writing, checking, first-mode, two-preambles, most-devices, most-memory, B3, B4, done, bad-chain, no-run, ill-formed}
 use Rattle.chain.specs.Rules.{Rule, _gives_, firstOf, allOf, _implies_, from}
-use Rattle.chain.specs.Kinds.{sizeOf, baseOf, knownOf}
+use Rattle.chain.specs.Kinds.{sizeAt, baseOf, knownOf}
 
 -- 1: count not 1 to 8, unknown kind, total over 65,536, or lent memory of another length
 unfoldable pub badChain : ℕ → List ℕ → ℕ → Bool
@@ -55,7 +55,7 @@ formed p count unused g size =
 -- the place p, with these registers, is well formed in the chain c
 unfoldable pub wellFormed : Chain → List ℕ → Place → Bool
 wellFormed c registers p =
-    allOf (formed p (c .count) (unusedZero registers (c .count)) (getD registers (p .device) 0) (sizeOf (getD (c .kinds) (p .device) 0)))
+    allOf (formed p (c .count) (unusedZero registers (c .count)) (getD registers (p .device) 0) (sizeAt c (p .device)))
 
 -- 17: unused kinds or registers not zero, or an open place that is not well formed
 unfoldable pub illFormed : Chain → Bool

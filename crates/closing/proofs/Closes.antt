@@ -19,7 +19,8 @@ use Rattle.chain.specs.Kinds.{baseOf}
 use Rattle.chain.specs.State.{openNumber}
 use Rattle.machine.specs.Run.{run, runOf}
 use Rattle.machine.specs.Calls.{answered, fedOf, sliceOf, sliceMemory}
-use Rattle.closing.specs.Closing.{deviceSize, withFF, tail, window, refusesFF, endLow, closingBytes}
+use Rattle.machine.specs.Byte.{sizeHere}
+use Rattle.closing.specs.Closing.{withFF, tail, window, refusesFF, endLow, closingBytes}
 use Rattle.closing.specs.Calls.{writtenNumber}
 use Rattle.closing.proofs.Meets.{number-open}
 use Rattle.closing.proofs.Ends.{Ends}
@@ -32,7 +33,7 @@ endRules c =
     let p = c .place in
     (from at·preamble at·second (p .awaited) gives no-preamble)
     ∷ (from at·null at·start (p .awaited) gives bad-start)
-    ∷ (eqb (p .awaited) at·start-low && ltb (withFF (p .start)) (deviceSize c) gives bad-end)
+    ∷ (eqb (p .awaited) at·start-low && ltb (withFF (p .start)) (sizeHere c) gives bad-end)
     ∷ (eqb (p .awaited) at·start-low gives bad-start)
     ∷ (eqb (p .awaited) at·end gives bad-end)
     ∷ (eqb (p .awaited) at·end-low && refusesFF c gives bad-end)
@@ -49,7 +50,7 @@ pub record Closes (c : Chain) (m : List ℕ) : Type 0 where
   pub memory : runOf (run c m more) (closingBytes c m) .memory ≡ m
   pub registers : runOf (run c m more) (closingBytes c m) .chain .registers ≡ c .registers
   pub late : (k : ℕ) → k < length (closingBytes c m) → runOf (run c m more) (take k (closingBytes c m)) .number ≡ more
-  pub short : length (closingBytes c m) ≤ deviceSize c + 3
+  pub short : length (closingBytes c m) ≤ sizeHere c + 3
 
 -- ---- all awaited bytes
 
@@ -68,16 +69,16 @@ module _ (c : Chain) (m : List ℕ) where
   -- at the awaited byte a the closing bytes end the run, and are short
   record Closed-at (a : ℕ) : Type 0 where
     pub ends : c .place .awaited ≡ a → Ends c m (closingBytes c m) (closingNumber c)
-    pub short : c .place .awaited ≡ a → length (closingBytes c m) ≤ deviceSize c + 3
+    pub short : c .place .awaited ≡ a → length (closingBytes c m) ≤ sizeHere c + 3
 
   shaped : {bs : List ℕ} {n : ℕ} → Ends c m bs n → closingBytes c m ≡ bs → closingNumber c ≡ n → Ends c m (closingBytes c m) (closingNumber c)
   shaped h p q = rw (p, q) h
 
 module _ (c : Chain) (m : List ℕ) (s : Sound c m) where
-  small : deviceSize c ≤ 65535
+  small : sizeHere c ≤ 65535
   small = omega (arith, s .most)
 
-  least : 52 ≤ deviceSize c
+  least : 52 ≤ sizeHere c
   least = s .least
 
   row-0 : Closed-at c m 0
@@ -122,7 +123,7 @@ module _ (c : Chain) (m : List ℕ) (s : Sound c m) where
   row-9 =
       record {
         ends = λ e. shaped c m (ends-9 c m small e) (rw e) (rw e);
-        short = λ e. rw e (by-test (ltb (withFF (c .place .start)) (deviceSize c)) (λ q. rw q (omega arith)) (λ q. rw q (omega arith)));
+        short = λ e. rw e (by-test (ltb (withFF (c .place .start)) (sizeHere c)) (λ q. rw q (omega arith)) (λ q. rw q (omega arith)));
       }
 
   row-10 : Closed-at c m 10
@@ -159,8 +160,8 @@ module _ (c : Chain) (m : List ℕ) (s : Sound c m) where
       }
 
   -- the window up to the end that the low byte makes leaves room for one byte more
-  end-short : (p : Place) → withFF (p .end) < deviceSize c → p .start ≤ withFF (p .end)
-      → p .end / 256 * 256 + endLow p - p .start + 2 ≤ deviceSize c
+  end-short : (p : Place) → withFF (p .end) < sizeHere c → p .start ≤ withFF (p .end)
+      → p .end / 256 * 256 + endLow p - p .start + 2 ≤ sizeHere c
   end-short p l g =
       by-test (eqb (p .end / 256) (p .start / 256))
       (λ q. rw q (omega (arith, least, eqb-true (p .end / 256) (p .start / 256) q, div-add-mod' (p .start) 256)))
@@ -175,13 +176,13 @@ module _ (c : Chain) (m : List ℕ) (s : Sound c m) where
       }
     where
       fits : refusesFF c ≡ false
-          → suc (length (window c m (c .place .start) (c .place .end / 256 * 256 + endLow (c .place)))) ≤ deviceSize c + 3
+          → suc (length (window c m (c .place .start) (c .place .end / 256 * 256 + endLow (c .place)))) ≤ sizeHere c + 3
       fits q =
           let p = c .place in
-          let t = takesFF (ltb (withFF (p .end)) (deviceSize c)) (ltb (withFF (p .end)) (p .start)) q in
+          let t = takesFF (ltb (withFF (p .end)) (sizeHere c)) (ltb (withFF (p .end)) (p .start)) q in
           omega (
             arith,
-            end-short p (ltb-true (withFF (p .end)) (deviceSize c) (t .0)) (ltb-false (withFF (p .end)) (p .start) (t .1)),
+            end-short p (ltb-true (withFF (p .end)) (sizeHere c) (t .0)) (ltb-false (withFF (p .end)) (p .start) (t .1)),
             window-short (p .start) (p .end / 256 * 256 + endLow p),
           )
 
@@ -239,7 +240,7 @@ slice-closes c m eight h =
     }
 
 -- an output of size + 3 bytes is never too short
-pub room-enough : (c : Chain) (m : List ℕ) (room : ℕ) → length (c .kinds) ≡ 8 → openNumber c (length m) ≡ done → deviceSize c + 3 ≤ room
+pub room-enough : (c : Chain) (m : List ℕ) (room : ℕ) → length (c .kinds) ≡ 8 → openNumber c (length m) ≡ done → sizeHere c + 3 ≤ room
     → writtenNumber c m room ≡ done
 room-enough c m room eight h l =
     let s = closes c m eight h .short in

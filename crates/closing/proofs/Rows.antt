@@ -20,7 +20,7 @@ use Rattle.machine.specs.Byte.{awaits, checks, sizeHere, withLow, badStart, bad
 use Rattle.machine.specs.Run.{addressOf, memoryOf, registersOf, missedOf, counted, run, stepOf, runOf}
 use Rattle.machine.specs.Block.{missesOf}
 use Rattle.machine.proofs.Block.{blockOf, block, misses-same, laid-same}
-use Rattle.closing.specs.Closing.{deviceSize, storedRegister, withFF, tail, window, afterStart, refusesFF, endLow, afterEnd}
+use Rattle.closing.specs.Closing.{storedRegister, withFF, tail, window, afterStart, refusesFF, endLow, afterEnd}
 use Rattle.closing.proofs.Ends.{Along, Ends, ends-last, ends-after, ends-step}
 
 -- one byte more taken
@@ -151,9 +151,9 @@ ends-10 c m s e =
     (ends-end _ m 0xff refl (rw (le-ltb 65535 (sizeHere c) s, or-true)))
 
 pub ends-9 : (c : Chain) (m : List ℕ) → sizeHere c ≤ 65535 → c .place .awaited ≡ at·start-low
-    → Ends c m (afterStart c) (pick (ltb (withFF (c .place .start)) (deviceSize c)) bad-end bad-start)
+    → Ends c m (afterStart c) (pick (ltb (withFF (c .place .start)) (sizeHere c)) bad-end bad-start)
 ends-9 c m s e =
-    by-test (ltb (withFF (c .place .start)) (deviceSize c))
+    by-test (ltb (withFF (c .place .start)) (sizeHere c))
     (λ q. rw q (ends-step c m bad-end _ 0xff (0xff ∷ 0xff ∷ []) (step-9 c m 0xff e (rw q)) refl refl (ends-10 _ m s refl)))
     (λ q. rw q (ends-start c m 0xff e (rw q)))
 

@@ -14,8 +14,8 @@ use Rattle.chain.specs.Paper.{at·control, at·data, closed, opened, most-devic
 use Rattle.chain.specs.Rules.{pick, allFrom, allOf, from}
 use Rattle.chain.specs.Kinds.{sizeOf, baseOf, knownOf}
 use Rattle.chain.specs.State.{badChain, unusedZero, formed, wellFormed, illFormed, openNumber}
-use Rattle.machine.specs.Byte.{checks}
-use Rattle.closing.specs.Closing.{deviceSize, storedRegister}
+use Rattle.machine.specs.Byte.{sizeHere, checks}
+use Rattle.closing.specs.Closing.{storedRegister}
 
 -- ---- Bools taken apart
 
@@ -104,11 +104,11 @@ known-at (k ∷ ks) (suc i) (suc n) h l e =
 
 pub record Sound (c : Chain) (m : List ℕ) : Type 0 where
   pub awaited : c .place .awaited < 14
-  pub least : 52 ≤ deviceSize c
-  pub most : deviceSize c ≤ 16381
-  pub inside : baseOf (c .kinds) (c .place .device) + deviceSize c ≤ length m
+  pub least : 52 ≤ sizeHere c
+  pub most : sizeHere c ≤ 16381
+  pub inside : baseOf (c .kinds) (c .place .device) + sizeHere c ≤ length m
   pub register : c .place .awaited ≡ at·control → (checks c && B3 (storedRegister c)) ≡ false
-  pub cells : c .place .awaited ≡ at·data → (c .place .next ≤ c .place .end) × (c .place .end < deviceSize c)
+  pub cells : c .place .awaited ≡ at·data → (c .place .next ≤ c .place .end) × (c .place .end < sizeHere c)
 
 module _ (c : Chain) (m : List ℕ) (h : openNumber c (length m) ≡ done) where
   no-refusal : (badChain (c .count) (c .kinds) (length m) ≡ false) × (illFormed c ≡ false) × (eqb (c .place .running) closed ≡ false)
@@ -121,16 +121,16 @@ module _ (c : Chain) (m : List ℕ) (h : openNumber c (length m) ≡ done) where
       chain-parts (from 1 most-devices (c .count)) (knownOf (c .kinds) (c .count)) (ltb most-memory (baseOf (c .kinds) (c .count))) (eqb (baseOf (c .kinds) (c .count)) (length m))
       (no-refusal .0)
 
-  rows : All (formed (c .place) (c .count) (unusedZero (c .registers) (c .count)) (storedRegister c) (deviceSize c))
+  rows : All (formed (c .place) (c .count) (unusedZero (c .registers) (c .count)) (storedRegister c) (sizeHere c))
   unfolding illFormed wellFormed
   rows =
-      all-of (formed (c .place) (c .count) (unusedZero (c .registers) (c .count)) (storedRegister c) (deviceSize c))
+      all-of (formed (c .place) (c .count) (unusedZero (c .registers) (c .count)) (storedRegister c) (sizeHere c))
       (place-parts (unusedZero (c .kinds) (c .count)) (unusedZero (c .registers) (c .count)) (eqb (c .place .running) closed) (eqb (c .place .running) opened) (wellFormed c (c .registers) (c .place))
       (no-refusal .1) (no-refusal .2))
 
   -- the row k of 'Well formed'
-  formed-row : (k : ℕ) → getD (formed (c .place) (c .count) (unusedZero (c .registers) (c .count)) (storedRegister c) (deviceSize c)) k true ≡ true
-  formed-row k = row k (formed (c .place) (c .count) (unusedZero (c .registers) (c .count)) (storedRegister c) (deviceSize c)) rows
+  formed-row : (k : ℕ) → getD (formed (c .place) (c .count) (unusedZero (c .registers) (c .count)) (storedRegister c) (sizeHere c)) k true ≡ true
+  formed-row k = row k (formed (c .place) (c .count) (unusedZero (c .registers) (c .count)) (storedRegister c) (sizeHere c)) rows
 
   -- the struct holds eight kinds
   pub sound : length (c .kinds) ≡ 8 → Sound c m
@@ -154,8 +154,8 @@ module _ (c : Chain) (m : List ℕ) (h : openNumber c (length m) ≡ done) where
       register-clear true false h = refl
       register-clear false b h = refl
 
-      window : (leb (c .place .start) (c .place .next) && leb (c .place .next) (c .place .end) && ltb (c .place .end) (deviceSize c)) ≡ true
-          → (c .place .next ≤ c .place .end) × (c .place .end < deviceSize c)
+      window : (leb (c .place .start) (c .place .next) && leb (c .place .next) (c .place .end) && ltb (c .place .end) (sizeHere c)) ≡ true
+          → (c .place .next ≤ c .place .end) × (c .place .end < sizeHere c)
       window h =
-          let r = and-parts (leb (c .place .start) (c .place .next) && leb (c .place .next) (c .place .end)) (ltb (c .place .end) (deviceSize c)) h in
-          (leb-true (c .place .next) (c .place .end) (and-parts (leb (c .place .start) (c .place .next)) (leb (c .place .next) (c .place .end)) (r .0) .1), ltb-true (c .place .end) (deviceSize c) (r .1))
+          let r = and-parts (leb (c .place .start) (c .place .next) && leb (c .place .next) (c .place .end)) (ltb (c .place .end) (sizeHere c)) h in
+          (leb-true (c .place .next) (c .place .end) (and-parts (leb (c .place .start) (c .place .next)) (leb (c .place .next) (c .place .end)) (r .0) .1), ltb-true (c .place .end) (sizeHere c) (r .1))

@@ -8,7 +8,8 @@ use Rattle.chain.specs.declared.Chain.{Chain}
 use Rattle.chain.specs.declared.Place.{Place}
 use Rattle.chain.specs.Paper.{postamble, no-windows, at·preamble, at·second, at·control, at·address, at·address2, at·address3, at·count, at·null, at·start, at·start-low, at·end, at·end-low, at·data, at·check}
 use Rattle.chain.specs.Rules.{pick}
-use Rattle.chain.specs.Kinds.{sizeOf, baseOf}
+use Rattle.chain.specs.Kinds.{baseOf}
+use Rattle.machine.specs.Byte.{sizeHere}
 
 -- an awaited byte, and what closes a run that awaits it
 pub data Row : Type 0 where
@@ -19,10 +20,7 @@ abbrev pub rowOf : ℕ → List Row → List ℕ
 rowOf a [] = []
 rowOf a ((n ⇒ bytes) ∷ rows) = pick (eqb a n) bytes (rowOf a rows)
 
--- the size of the current device, and its stored register
-abbrev pub deviceSize : Chain → ℕ
-deviceSize c = sizeOf (getD (c .kinds) (c .place .device) 0)
-
+-- the current device's stored register
 abbrev pub storedRegister : Chain → ℕ
 storedRegister c = getD (c .registers) (c .place .device) 0
 
@@ -40,11 +38,11 @@ window c m first last = take (last - first + 1) (drop (baseOf (c .kinds) (c .pla
 
 -- at 9: FF, then FF FF if that start is below size
 abbrev pub afterStart : Chain → List ℕ
-afterStart c = 0xff ∷ pick (ltb (withFF (c .place .start)) (deviceSize c)) (0xff ∷ 0xff ∷ []) []
+afterStart c = 0xff ∷ pick (ltb (withFF (c .place .start)) (sizeHere c)) (0xff ∷ 0xff ∷ []) []
 
 -- at 11: 256h + 255 is not below size or is below start
 abbrev pub refusesFF : Chain → Bool
-refusesFF c = not (ltb (withFF (c .place .end)) (deviceSize c)) || ltb (withFF (c .place .end)) (c .place .start)
+refusesFF c = not (ltb (withFF (c .place .end)) (sizeHere c)) || ltb (withFF (c .place .end)) (c .place .start)
 
 -- at 11: the start's low byte if h is the start's high byte, else 00
 abbrev pub endLow : Place → ℕ

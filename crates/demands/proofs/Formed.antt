@@ -14,11 +14,11 @@ use Rattle.chain.specs.declared.Chain.{Chain}
 use Rattle.chain.specs.declared.Place.{Place}
 use Rattle.chain.specs.Paper.{opened, closed, most-devices, most-memory}
 use Rattle.chain.specs.Rules.{allFrom, allOf, from}
-use Rattle.chain.specs.Kinds.{kinds, sizes, lookup, sizeOf, baseOf, knownOf}
+use Rattle.chain.specs.Kinds.{kinds, sizes, lookup, sizeOf, sizeAt, baseOf, knownOf}
 use Rattle.chain.specs.State.{badChain, zeros, unusedZero, formed, wellFormed, illFormed}
 use Rattle.chain.proofs.ByCases.{by-test}
 use Rattle.saved.specs.Layout.{saved-length, saved-form, heldFields, placeOf, registersOf, marks, wellSaved}
-use Rattle.demands.specs.Formed.{Among, Known, Between, BadChain, UnusedZero, placeSize, placeRegister, WellFormed, IllFormed, WellSaved}
+use Rattle.demands.specs.Formed.{Among, Known, Between, BadChain, UnusedZero, placeRegister, WellFormed, IllFormed, WellSaved}
 use Rattle.demands.proofs.Table.{Tests, t-iff, not-so, so-not, reads}
 
 -- ---- number 1
@@ -183,7 +183,7 @@ said t = t .said
 
 module _ (c : Chain) (g : List ℕ) (p : Place) where
   abbrev rows : List Bool
-  rows = formed p (c .count) (unusedZero g (c .count)) (placeRegister g p) (placeSize c p)
+  rows = formed p (c .count) (unusedZero g (c .count)) (placeRegister g p) (sizeAt c (p .device))
 
   to-formed : wellFormed c g p ≡ true → WellFormed c g p
   unfolding wellFormed

@@ -23,7 +23,8 @@ use Rattle.machine.specs.Block.{missesOf, laidOf}
 use Rattle.machine.proofs.Block.{block}
 use Rattle.machine.proofs.Feed.{run-append, run-over}
 use Rattle.machine.proofs.Runs.{step-number}
-use Rattle.demands.specs.Grammar.{sizeAt, baseAt, Sent, frame, Window, Section, dataSent, windowSent, windowsSent, sectionSent, sectionsSent, leadSent, streamSent, bytesOf, Fits, AllFit, SectionFits, SectionsFit}
+use Rattle.chain.specs.Kinds.{sizeAt}
+use Rattle.demands.specs.Grammar.{baseAt, Sent, frame, Window, Section, dataSent, windowSent, windowsSent, sectionSent, sectionsSent, leadSent, streamSent, bytesOf, Fits, AllFit, SectionFits, SectionsFit}
 use Rattle.demands.specs.Demand2.{Lets, AllLet, Fitting}
 use Rattle.demands.proofs.Plain.{bytes-append}
 use Rattle.demands.proofs.Accepted.{Accepted, last, next, bare-step}

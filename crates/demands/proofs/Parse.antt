@@ -17,7 +17,8 @@ use Rattle.chain.proofs.ByCases.{by-test}
 use Rattle.machine.specs.Byte.{nextDevice, advanceOf}
 use Rattle.machine.specs.Run.{registersOf, missedOf, wentOn}
 use Rattle.machine.specs.Calls.{openedPlace}
-use Rattle.demands.specs.Grammar.{sizeAt, baseAt, register, Sent, frame, Section, windowsSent, sectionSent, sectionsSent, streamSent, bytesOf, AllFit, SectionFits, SectionsFit, Bytes}
+use Rattle.chain.specs.Kinds.{sizeAt}
+use Rattle.demands.specs.Grammar.{baseAt, register, Sent, frame, Section, windowsSent, sectionSent, sectionsSent, streamSent, bytesOf, AllFit, SectionFits, SectionsFit, Bytes}
 use Rattle.demands.proofs.OtherRegisters.{with·registers}
 use Rattle.demands.proofs.Along.{sentOf}
 use Rattle.demands.proofs.Accepted.{Accepted, accepted-bytes}

@@ -11,7 +11,8 @@ use lib.ListN.{length}
 use Rattle.chain.specs.declared.Chain.{Chain}
 use Rattle.chain.specs.Paper.{preamble, postamble, no-windows, two-preambles}
 use Rattle.chain.specs.Rules.{pick}
-use Rattle.demands.specs.Grammar.{sizeAt, baseAt, Sent, frame, Window, Section, dataSent, windowSent, windowsSent, sectionSent, sectionsSent, streamSent, bytesOf, Fits, AllFit, SectionFits, SectionsFit}
+use Rattle.chain.specs.Kinds.{sizeAt}
+use Rattle.demands.specs.Grammar.{baseAt, Sent, frame, Window, Section, dataSent, windowSent, windowsSent, sectionSent, sectionsSent, streamSent, bytesOf, Fits, AllFit, SectionFits, SectionsFit}
 
 pub bytes-append : (xs ys : List Sent) → bytesOf (xs ++ ys) ≡ bytesOf xs ++ bytesOf ys
 bytes-append [] ys = refl

@@ -7,8 +7,8 @@ use native.Mathlib.Omega.{arith}
 use lib.ListN.{length, take, drop, take-append-drop}
 use lib.Seq.{length-take-le}
 use Rattle.chain.specs.declared.Chain.{Chain}
-use Rattle.chain.specs.Kinds.{sizeOf}
-use Rattle.demands.specs.Grammar.{sizeAt, Section, streamSent, bytesOf, SectionFits, SectionsFit}
+use Rattle.chain.specs.Kinds.{sizeAt, sizeOf}
+use Rattle.demands.specs.Grammar.{Section, streamSent, bytesOf, SectionFits, SectionsFit}
 use Rattle.demands.specs.Loader.{AfterWrite, AfterList, Mode}
 use Rattle.demands.specs.Demand3.{Reading, offered}
 use Rattle.demands.specs.Files.{Room, starts, ends, cells, Lists, One, rewritten, Again}

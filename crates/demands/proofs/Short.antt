@@ -10,7 +10,8 @@ use Rattle.chain.specs.declared.Chain.{Chain}
 use Rattle.chain.specs.Paper.{preamble, postamble, two-preambles}
 use Rattle.chain.specs.Rules.{pick}
 use Rattle.chain.proofs.Sizes.{size-most}
-use Rattle.demands.specs.Grammar.{sizeAt, baseAt, Target, framing, register, cell, Sent, frame, Window, Section, dataSent, windowSent, windowsSent, sectionSent, sectionsSent, leadSent, streamSent, bytesOf, AllFit, SectionFits, SectionsFit}
+use Rattle.chain.specs.Kinds.{sizeAt}
+use Rattle.demands.specs.Grammar.{baseAt, Target, framing, register, cell, Sent, frame, Window, Section, dataSent, windowSent, windowsSent, sectionSent, sectionsSent, leadSent, streamSent, bytesOf, AllFit, SectionFits, SectionsFit}
 use Rattle.demands.specs.Demand2.{unlike, unlikes}
 
 -- the bytes alone are as many

@@ -14,7 +14,8 @@ use Rattle.chain.specs.Paper.{at·null, at·start, at·start-low, at·end, at·
 use Rattle.chain.specs.Set.{with·place, with·awaited, with·left, with·start, with·end, with·next}
 use Rattle.machine.specs.Byte.{withLow, noWindow, passedOf, advanceOf}
 use Rattle.machine.specs.Run.{addressOf, registersOf, missedOf, counted, wentOn}
-use Rattle.demands.specs.Grammar.{sizeAt, baseAt, cell, frame, Window, dataSent, windowSent, windowsSent, Fits, AllFit, Bytes}
+use Rattle.chain.specs.Kinds.{sizeAt}
+use Rattle.demands.specs.Grammar.{baseAt, cell, frame, Window, dataSent, windowSent, windowsSent, Fits, AllFit, Bytes}
 use Rattle.demands.proofs.Along.{aim}
 use Rattle.demands.proofs.Accepted.{Accepted}
 use Rattle.demands.proofs.Read.{Left, left-both, OneLeft, one, Moves}

@@ -7,7 +7,7 @@ use lib.ListN.{length, getD}
 use Rattle.chain.specs.declared.Chain.{Chain}
 use Rattle.chain.specs.declared.Place.{Place}
 use Rattle.chain.specs.Paper.{at·preamble, at·second, at·control, at·count, at·null, at·start, at·start-low, at·end, at·end-low, at·data, at·check, closed, opened, writing, checking, first-mode, two-preambles, most-devices, most-memory, bit3, bit4}
-use Rattle.chain.specs.Kinds.{kinds, sizeOf, baseOf}
+use Rattle.chain.specs.Kinds.{kinds, sizeAt, baseOf}
 use Rattle.saved.specs.Layout.{saved-length, saved-form, heldFields, placeOf, registersOf}
 
 -- x is one of them
@@ -38,10 +38,7 @@ UnusedZero xs n = (i : ℕ) → n ≤ i → getD xs i 0 ≡ 0
 abbrev pub Sets : ℕ → ℕ → Type 0
 Sets bit g = g / bit % 2 ≡ 1
 
--- of a place's device
-abbrev pub placeSize : Chain → Place → ℕ
-placeSize c p = sizeOf (getD (c .kinds) (p .device) 0)
-
+-- the stored register of a place's device
 abbrev pub placeRegister : List ℕ → Place → ℕ
 placeRegister registers p = getD registers (p .device) 0
 
@@ -66,9 +63,9 @@ pub record WellFormed (c : Chain) (registers : List ℕ) (p : Place) : Type 0 wh
   pub at-7-to-12 : Between at·null at·data (p .awaited) → 1 ≤ p .left
   pub at-7-and-8 : Between at·null at·start (p .awaited) → (p .start ≡ 0) × (p .end ≡ 0) × (p .next ≡ 0)
   pub at-9 : p .awaited ≡ at·start-low → (p .start % 256 ≡ 0) × (p .end ≡ 0) × (p .next ≡ 0)
-  pub at-10 : p .awaited ≡ at·end → (p .start < placeSize c p) × (p .end ≡ 0) × (p .next ≡ 0)
-  pub at-11 : p .awaited ≡ at·end-low → (p .start < placeSize c p) × (p .end % 256 ≡ 0) × (p .next ≡ 0)
-  pub at-12 : p .awaited ≡ at·data → (p .start ≤ p .next) × (p .next ≤ p .end) × (p .end < placeSize c p)
+  pub at-10 : p .awaited ≡ at·end → (p .start < sizeAt c (p .device)) × (p .end ≡ 0) × (p .next ≡ 0)
+  pub at-11 : p .awaited ≡ at·end-low → (p .start < sizeAt c (p .device)) × (p .end % 256 ≡ 0) × (p .next ≡ 0)
+  pub at-12 : p .awaited ≡ at·data → (p .start ≤ p .next) × (p .next ≤ p .end) × (p .end < sizeAt c (p .device))
   pub at-2 : p .awaited ≡ at·control → Sets bit4 (placeRegister registers p) → ⊥
   pub at-2-checked : (p .awaited ≡ at·control) × (p .check ≡ checking) → Sets bit3 (placeRegister registers p) → ⊥
 

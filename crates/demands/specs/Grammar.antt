@@ -8,12 +8,9 @@ use lib.ListN.{length, getD}
 use Rattle.chain.specs.declared.Chain.{Chain}
 use Rattle.chain.specs.Paper.{preamble, postamble, no-windows, two-preambles, B2}
 use Rattle.chain.specs.Rules.{pick}
-use Rattle.chain.specs.Kinds.{sizeOf, baseOf}
+use Rattle.chain.specs.Kinds.{sizeAt, baseOf}
 
--- a device's size, and where its memory begins in the chain's
-abbrev pub sizeAt : Chain → ℕ → ℕ
-sizeAt c d = sizeOf (getD (c .kinds) d 0)
-
+-- where a device's memory begins in the chain's
 abbrev pub baseAt : Chain → ℕ → ℕ
 baseAt c d = baseOf (c .kinds) d
 

@@ -17,7 +17,8 @@ use Rattle.chain.specs.State.{unusedZero, wellFormed}
 use Rattle.chain.proofs.ByCases.{by-test, no-case, _or_, below}
 use Rattle.chain.proofs.Means.{says, said, reads}
 use Rattle.chain.proofs.FirstOf.{first-none, none-given, conditionOf}
-use Rattle.chain.proofs.WellFormed.{Formed, formed-of, placeSize, placeRegister}
+use Rattle.chain.specs.Kinds.{sizeAt}
+use Rattle.chain.proofs.WellFormed.{Formed, formed-of, placeRegister}
 use Rattle.machine.specs.Byte.{awaits, checks, withLow, begins, registerBegun, byteRules, numberOf, passedOf, advanceOf}
 use Rattle.machine.specs.Run.{registersOf}
 
@@ -121,23 +122,23 @@ module _ (c : Chain) (p : Place) (b : ℕ) where
   unfolding wellFormed registersOf advanceOf
   keeps-9 h n =
       let z = good at·start-low h .at-start-low refl in
-      let l : ltb (withLow (p .start) b) (placeSize c p) ≡ true = not-false _ (no-rule (at at·start-low) b n bad-start) in
+      let l : ltb (withLow (p .start) b) (sizeAt c (p .device)) ≡ true = not-false _ (no-rule (at at·start-low) b n bad-start) in
       rw (l, z .1, z .2) (rw (z .0, z .1, z .2) at h)
 
   keeps-10 : Keeps at·end
   unfolding wellFormed registersOf advanceOf
   keeps-10 h n =
       let z = good at·end h .at-end refl in
-      let l : ltb (p .start) (placeSize c p) ≡ true = lt-ltb (p .start) (placeSize c p) (z .0) in
+      let l : ltb (p .start) (sizeAt c (p .device)) ≡ true = lt-ltb (p .start) (sizeAt c (p .device)) (z .0) in
       rw (l, mul-mod-left b 256, z .2) (rw (l, z .1, z .2) at h)
 
   keeps-11 : Keeps at·end-low
   unfolding wellFormed registersOf advanceOf
   keeps-11 h n =
       let z = good at·end-low h .at-end-low refl in
-      let w : (p .start ≤ withLow (p .end) b) × (withLow (p .end) b < placeSize c p) = says (search reads) (no-rule (at at·end-low) b n bad-end) in
-      rw (le-leb (p .start) (p .start) (omega arith), le-leb (p .start) (withLow (p .end) b) (w .0), lt-ltb (withLow (p .end) b) (placeSize c p) (w .1))
-      (rw (lt-ltb (p .start) (placeSize c p) (z .0), z .1, z .2) at h)
+      let w : (p .start ≤ withLow (p .end) b) × (withLow (p .end) b < sizeAt c (p .device)) = says (search reads) (no-rule (at at·end-low) b n bad-end) in
+      rw (le-leb (p .start) (p .start) (omega arith), le-leb (p .start) (withLow (p .end) b) (w .0), lt-ltb (withLow (p .end) b) (sizeAt c (p .device)) (w .1))
+      (rw (lt-ltb (p .start) (sizeAt c (p .device)) (z .0), z .1, z .2) at h)
 
   keeps-12 : Keeps at·data
   unfolding wellFormed registersOf advanceOf passedOf
@@ -146,7 +147,7 @@ module _ (c : Chain) (p : Place) (b : ℕ) where
       let z = f .at-data refl in
       let s : leb (p .start) (p .next) ≡ true = le-leb (p .start) (p .next) (z .0) in
       let t : leb (p .next) (p .end) ≡ true = le-leb (p .next) (p .end) (z .1) in
-      let u : ltb (p .end) (placeSize c p) ≡ true = lt-ltb (p .end) (placeSize c p) (z .2) in
+      let u : ltb (p .end) (sizeAt c (p .device)) ≡ true = lt-ltb (p .end) (sizeAt c (p .device)) (z .2) in
       by-test (leb (p .next + 1) (p .end))
       (λ e. rw (e, e, le-leb (p .start) (p .next + 1) (omega arith)) (rw (s, t) at h))
       (λ e.

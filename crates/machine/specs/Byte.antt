@@ -9,7 +9,7 @@ use Rattle.chain.specs.declared.Place.{Place}
 use Rattle.chain.specs.Paper.{preamble, postamble, no-windows, at·preamble, at·second, at·control, at·address, at·address2, at·address3, at·count, at·null, at·start, at·start-low, at·end, at·end-low, at·data, at·check, checking, two-preambles, done, no-preamble, barred, no-check, bad-check-byte, ends-here, last-device, bad-start, bad-end, more, B2, B3, B4}
 use Rattle.chain.specs.Rules.{pick, Rule, _gives_, firstOf}
 use Rattle.chain.specs.Set.{with·awaited, with·left, with·control, with·start, with·end, with·next, with·device}
-use Rattle.chain.specs.Kinds.{sizeOf}
+use Rattle.chain.specs.Kinds.{sizeAt}
 
 -- the run awaits the byte a
 abbrev pub awaits : Chain → ℕ → Bool
@@ -20,7 +20,7 @@ checks c = eqb (c .place .check) checking
 
 -- the size of the run's device
 abbrev pub sizeHere : Chain → ℕ
-sizeHere c = sizeOf (getD (c .kinds) (c .place .device) 0)
+sizeHere c = sizeAt c (c .place .device)
 
 -- the value of a high byte, kept as a multiple of 256, and its low byte
 abbrev pub withLow : ℕ → ℕ → ℕ
