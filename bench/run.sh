@@ -24,5 +24,5 @@ else
     sh "$here/here.sh" "$room"
     library=$room/library.o
 fi
-rustc --edition 2021 -C opt-level=3 "$here/main.rs" -o "$room/race" -C link-arg="$room/by_pointer.o" -C link-arg="$library"
+sh "$here/../tools/rustc.sh" --edition 2021 -C opt-level=3 "$here/main.rs" -o "$room/race" -C link-arg="$room/by_pointer.o" -C link-arg="$library"
 "$room/race" "${2:-101}"

@@ -9,6 +9,6 @@ here=$(cd "$(dirname "$0")" && pwd)
 x86=$here/../../tools/x86.sh
 room=$(mktemp -d)
 trap 'rm -rf "$room"' EXIT
-rustc -O --edition 2021 "$here/main.rs" -o "$room/compare"
+sh "$here/../../tools/rustc.sh" -O --edition 2021 "$here/main.rs" -o "$room/compare"
 sh "$x86" cc "$room/archive" "$here/archive.c" "$archive"
 "$room/compare" "$seed" "$calls" sh "$x86" run "$room/archive"
