@@ -1,8 +1,9 @@
--- How a call's number is found: its refusals are one list, in document 01's order, and the first that holds gives the number. Assumes nothing.
+-- How a call's number is found: its refusals are one list, in document 01's order, and the first that holds gives the number. And tables by
+-- awaited byte. Assumes nothing.
 use Prim.Native.Nat.{ℕ}
 use mathlib.Core.Bool.{Bool, true, false, not, _&&_, _||_}
 use mathlib.Core.List.{List, [], _∷_}
-use lib.Dec.{leb}
+use lib.Dec.{eqb, leb}
 
 abbrev pub pick : {A : Type 0} → Bool → A → A → A
 pick true a b = a
@@ -17,6 +18,16 @@ infix 25 _gives_
 abbrev pub firstOf : List Rule → ℕ → ℕ
 firstOf [] n = n
 firstOf ((holds gives m) ∷ rules) n = pick holds m (firstOf rules n)
+
+-- a row of a table by awaited byte
+pub data Row (A : Type 0) : Type 0 where
+  _⇒_ : ℕ → A → Row A
+
+infix 25 _⇒_
+-- what the table has for the awaited byte a, and other where it has no such row
+abbrev pub rowOf : {A : Type 0} → ℕ → List (Row A) → A → A
+rowOf a [] other = other
+rowOf a ((n ⇒ x) ∷ rows) other = pick (eqb a n) x (rowOf a rows other)
 
 -- all of them hold
 abbrev pub allFrom : Bool → List Bool → Bool

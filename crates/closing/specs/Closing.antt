@@ -7,18 +7,9 @@ use lib.Dec.{eqb, ltb}
 use Rattle.chain.specs.declared.Chain.{Chain}
 use Rattle.chain.specs.declared.Place.{Place}
 use Rattle.chain.specs.Paper.{postamble, no-windows, at·preamble, at·second, at·control, at·address, at·address2, at·address3, at·count, at·null, at·start, at·start-low, at·end, at·end-low, at·data, at·check}
-use Rattle.chain.specs.Rules.{pick}
+use Rattle.chain.specs.Rules.{pick, Row, _⇒_, rowOf}
 use Rattle.chain.specs.Kinds.{baseOf}
 use Rattle.machine.specs.Byte.{sizeHere}
-
--- an awaited byte, and what closes a run that awaits it
-pub data Row : Type 0 where
-  _⇒_ : ℕ → List ℕ → Row
-
-infix 25 _⇒_
-abbrev pub rowOf : ℕ → List Row → List ℕ
-rowOf a [] = []
-rowOf a ((n ⇒ bytes) ∷ rows) = pick (eqb a n) bytes (rowOf a rows)
 
 -- the current device's stored register
 abbrev pub storedRegister : Chain → ℕ
@@ -72,4 +63,4 @@ closingBytes c m =
     ∷ (at·end ⇒ 0xff ∷ 0xff ∷ [])
     ∷ (at·end-low ⇒ afterEnd c m)
     ∷ (at·data ⇒ window c m (p .next) (p .end))
-    ∷ [])
+    ∷ []) []

@@ -8,10 +8,10 @@ use lib.Dec.{eqb, ltb, leb}
 use Rattle.chain.specs.declared.Chain.{Chain}
 use Rattle.chain.specs.declared.Place.{Place}
 use Rattle.chain.specs.Paper.{no-windows, at·null, at·check, more}
-use Rattle.chain.specs.Rules.{pick}
+use Rattle.chain.specs.Rules.{Row, _⇒_, rowOf, pick}
 use Rattle.chain.specs.Set.{with·awaited, with·left, with·next, with·mismatches, with·place}
 use Rattle.chain.proofs.ByCases.{by-test}
-use Rattle.machine.specs.Byte.{Row, _⇒_, rowOf, noWindow, passedOf, advanceRows, advanceOf, numberOf}
+use Rattle.machine.specs.Byte.{noWindow, passedOf, advanceRows, advanceOf, numberOf}
 use Rattle.machine.specs.Run.{registersOf, missedOf, counted, ended, Run, run, wentOn, stepOf, onByte, runOf}
 
 -- the same chain with j mismatches
@@ -26,13 +26,13 @@ still-pick j true x y x′ y′ f g = f
 still-pick j false x y x′ y′ f g = g
 
 -- the same table, row by row
-abbrev Stills : ℕ → List Row → List Row → Type 0
+abbrev Stills : ℕ → List (Row Place) → List (Row Place) → Type 0
 Stills j [] [] = Unit {0}
 Stills j [] (x ∷ rows) = ⊥
 Stills j ((n ⇒ q) ∷ rows) [] = ⊥
 Stills j ((n ⇒ q) ∷ rows) ((n′ ⇒ q′) ∷ rows′) = ((n′ ≡ n) × (q′ ≡ with·mismatches q j)) × Stills j rows rows′
 
-rows-still : (j a : ℕ) (p : Place) (rows rows′ : List Row) → Stills j rows rows′
+rows-still : (j a : ℕ) (p : Place) (rows rows′ : List (Row Place)) → Stills j rows rows′
     → rowOf a rows′ (with·mismatches p j) ≡ with·mismatches (rowOf a rows p) j
 rows-still j a p [] [] s = refl
 rows-still j a p [] (x ∷ rows′) s = absurd s

@@ -7,8 +7,8 @@ use lib.Dec.{eqb, ltb, leb}
 use Rattle.chain.specs.declared.Place.{Place}
 use Rattle.chain.specs.Paper.{no-windows, at·null, at·check}
 use Rattle.chain.specs.Set.{with·awaited, with·left, with·next}
-use Rattle.chain.specs.Rules.{pick}
-use Rattle.machine.specs.Byte.{Row, _⇒_, rowOf, noWindow, passedOf, advanceRows, advanceOf}
+use Rattle.chain.specs.Rules.{Row, _⇒_, rowOf, pick}
+use Rattle.machine.specs.Byte.{noWindow, passedOf, advanceRows, advanceOf}
 
 pub record Frame (p q : Place) : Type 0 where
   pub running : q .running ≡ p .running
@@ -26,11 +26,11 @@ frame-pick : (p : Place) (t : Bool) (x y : Place) → Frame p x → Frame p y �
 frame-pick p true x y f g = f
 frame-pick p false x y f g = g
 
-abbrev Frames : Place → List Row → Type 0
+abbrev Frames : Place → List (Row Place) → Type 0
 Frames p [] = Unit {0}
 Frames p ((n ⇒ q) ∷ rows) = Frame p q × Frames p rows
 
-frame-rows : (p : Place) (a : ℕ) (rows : List Row) → Frames p rows → Frame p (rowOf a rows p)
+frame-rows : (p : Place) (a : ℕ) (rows : List (Row Place)) → Frames p rows → Frame p (rowOf a rows p)
 frame-rows p a [] f = framed refl refl refl refl refl
 frame-rows p a ((n ⇒ q) ∷ rows) f = frame-pick p (eqb a n) q (rowOf a rows p) (f .0) (frame-rows p a rows (f .1))
 

@@ -7,7 +7,7 @@ use lib.Dec.{eqb, ltb, leb}
 use Rattle.chain.specs.declared.Chain.{Chain}
 use Rattle.chain.specs.declared.Place.{Place}
 use Rattle.chain.specs.Paper.{preamble, postamble, no-windows, at·preamble, at·second, at·control, at·address, at·address2, at·address3, at·count, at·null, at·start, at·start-low, at·end, at·end-low, at·data, at·check, checking, two-preambles, done, no-preamble, barred, no-check, bad-check-byte, ends-here, last-device, bad-start, bad-end, more, B2, B3, B4}
-use Rattle.chain.specs.Rules.{pick, Rule, _gives_, firstOf}
+use Rattle.chain.specs.Rules.{pick, Rule, _gives_, firstOf, Row, _⇒_, rowOf}
 use Rattle.chain.specs.Set.{with·awaited, with·left, with·control, with·start, with·end, with·next, with·device}
 use Rattle.chain.specs.Kinds.{sizeAt}
 
@@ -68,15 +68,6 @@ byteRules c b =
 unfoldable pub numberOf : Chain → ℕ → ℕ
 numberOf c b = firstOf (byteRules c b) more
 
--- an awaited byte, and the place after it
-pub data Row : Type 0 where
-  _⇒_ : ℕ → Place → Row
-
-infix 25 _⇒_
-abbrev pub rowOf : ℕ → List Row → Place → Place
-rowOf a [] p = p
-rowOf a ((n ⇒ q) ∷ rows) p = pick (eqb a n) q (rowOf a rows p)
-
 abbrev pub noWindow : Place → Place
 noWindow p = with·start (with·end (with·next p 0) 0) 0
 
@@ -88,7 +79,7 @@ passedOf p n =
     (with·awaited (with·left (noWindow p) 0) at·check))
 
 -- where a run goes on after the byte b, by the awaited byte
-abbrev pub advanceRows : Place → ℕ → List Row
+abbrev pub advanceRows : Place → ℕ → List (Row Place)
 advanceRows p b =
     (at·preamble ⇒ with·awaited p (pick (eqb (p .mode) two-preambles) at·second at·control))
     ∷ (at·second ⇒ with·awaited p at·control)
