@@ -5,8 +5,8 @@ use mathlib.Core.List.{List, [], _∷_, _++_}
 use native.Mathlib.Numerals.{add-one}
 use native.Mathlib.Omega.{arith}
 use borrow.Author.Tests.{ne-eqb}
-use lib.ListN.{length, getD, take, drop, drop-of-length-le, take-append-drop}
-use lib.Seq.{drop-cons, drop-drop}
+use lib.ListN.{length, getD, take, drop, drop-of-length-le, take-append-drop, length-drop}
+use lib.Seq.{take-all, drop-cons, drop-drop}
 use Rattle.chain.specs.declared.Chain.{Chain}
 use Rattle.chain.specs.Paper.{more}
 use Rattle.machine.specs.Run.{Run, run, stepOf, onByte, runOf}
@@ -40,3 +40,11 @@ module _ (c : Chain) (m s : List ℕ) (i : ℕ) where
       ap (λ (x : List ℕ). runOf (run c m more) x) (sym (take-append-drop k (drop i s)))
       ∙ run-append (take k (drop i s)) (drop k (drop i s)) (run c m more)
       ∙ rw (f, drop-drop k i s)
+
+  -- u bytes further, as a lent rest has them
+  pub run-rest : (u : ℕ) (r : Run) → runOf (run c m more) (take (length s - i) (drop i s)) ≡ runOf r (drop u (take (length s - i) (drop i s)))
+      → runOf (run c m more) (drop i s) ≡ runOf r (drop (i + u) s)
+  run-rest u r e =
+      let whole : take (length s - i) (drop i s) ≡ drop i s = take-all (length s - i) (drop i s) (omega (arith, length-drop i s)) in
+      let f : runOf (run c m more) (drop i s) ≡ runOf r (drop u (drop i s)) = rw whole at e in
+      f ∙ ap (runOf r) (drop-drop u i s)

@@ -44,6 +44,20 @@ frame-passed p n =
     (framed refl refl refl refl refl)
     (framed refl refl refl refl refl))
 
+pick-device : (t : Bool) (x y : Place) (d : ℕ) → x .device ≡ d → y .device ≡ d → pick t x y .device ≡ d
+pick-device true x y d a b = a
+pick-device false x y d a b = b
+
+-- data bytes stay in their device
+pub passed-device : (p : Place) (n : ℕ) → passedOf p n .device ≡ p .device
+unfolding passedOf
+passed-device p n =
+    pick-device (leb (p .next + n) (p .end)) (with·next p (p .next + n))
+    (pick (ltb 1 (p .left)) (with·awaited (with·left (noWindow p) (p .left - 1)) at·null) (with·awaited (with·left (noWindow p) 0) at·check))
+    (p .device) refl
+    (pick-device (ltb 1 (p .left)) (with·awaited (with·left (noWindow p) (p .left - 1)) at·null) (with·awaited (with·left (noWindow p) 0) at·check)
+    (p .device) refl refl)
+
 pub advance-frame : (p : Place) (b : ℕ) → Frame p (advanceOf p b)
 unfolding advanceOf
 advance-frame p b = frame-rows p (p .awaited) (advanceRows p b)

@@ -4,8 +4,6 @@ use cells::copy;
 use cells::differ;
 use chain::Chain;
 use chain::Place;
-use chain::eight::at8;
-use chain::kinds::size_of;
 use chain::paper::*;
 ghost use mathlib.Core.Path.{_≡_};
 ghost use Prim.Native.Nat.{_+_, _-_, _*_, _≤_, _<_};
@@ -13,7 +11,6 @@ ghost use lib.ListN.{length};
 ghost use Rattle.chain.specs.Paper.{at·data, more};
 ghost use Rattle.machine.specs.Run.{addressOf, counted, run, runOf};
 ghost use Rattle.machine.specs.Block.{laidOf, missesOf, Span, fitsOf, headedOf};
-ghost use Rattle.machine.specs.Byte.{sizeHere};
 ghost use Rattle.chain.specs.Set.{with·place};
 
 // n bytes more taken, k of them mismatches.
@@ -47,6 +44,7 @@ pub fn bulk(c: Chain, mem: &mut [u8], at: usize, t: &[u8]) -> Chain
     requires { ⌜ (c .place .awaited ≡ at·data) × (at ≡ addressOf c) × (0 < length (now t)) × (length (now t) ≤ c .place .end - c .place .next + 1)
         × (at + length (now t) ≤ length (now mem)) × (length (now t) ≤ 65536) ⌝ }
     ensures { λ r. ⌜ runOf (run c (now (mem .entry)) more) (now (t .entry)) ≡ run r (now (mem .exit)) more ⌝ }
+    ensures { λ r. ⌜ (r .kinds ≡ c .kinds) × (r .place .device ≡ c .place .device) ⌝ }
 {
     let p = c.place;
     let k = lay(mem, at, p.check, t);
@@ -80,12 +78,10 @@ pub fn pair(high: u8, low: u8) -> u16
     high as u16 * 256 + low as u16
 }
 
-// A window that the run's device has.
-pub fn fits(c: Chain, start: u16, end: u16) -> bool
-    ensures { λ r. ⌜ r ≡ fitsOf (sizeHere c) start end ⌝ }
+// A window that a device of that size has.
+pub fn fits(size: u16, start: u16, end: u16) -> bool
+    ensures { λ r. ⌜ r ≡ fitsOf size start end ⌝ }
 {
-    let ks = c.kinds;
-    let size = size_of(at8(ks, c.place.device));
     (start < size) & (start <= end) & (end < size)
 }
 

@@ -11,8 +11,10 @@ use crate::one_byte::advance;
 use crate::one_byte::number;
 use chain::Chain;
 use chain::closed_place;
+use chain::eight::at8;
 use chain::eight::with8;
 use chain::kinds::base_of;
+use chain::kinds::size_of;
 use chain::paper::*;
 ghost use mathlib.Core.Path.{_≡_};
 ghost use Prim.Native.Nat.{_≤_, _<_};
@@ -20,11 +22,17 @@ ghost use Rattle.chain.specs.Paper.{more};
 ghost use Rattle.machine.specs.Run.{addressOf, memoryOf, registersOf, missedOf, run, stepOf, runOf};
 ghost use Rattle.machine.specs.Calls.{fedOf};
 ghost use Rattle.cells.specs.Differ.{unlikeOf};
-ghost use lib.ListN.{getD};
+ghost use lib.ListN.{length, getD, drop};
 
 pub struct Stepped {
     pub chain: Chain,
     pub number: u8,
+}
+
+// The chain after some front bytes of a slice, and how many they were.
+struct Front {
+    chain: Chain,
+    used: usize,
 }
 
 // The awaited cell.
@@ -125,19 +133,28 @@ fn step(c: Chain, mem: &mut [u8], b: u8) -> Stepped
     }
 }
 
-// Bytes of an open run, up to its end. Data bytes are taken as one block where it lies inside memory, as it does in every
-// sound state, and the five bytes before them at once where the window fits; all others go byte by byte. The step is called
-// here alone, so that it is compiled into the loop.
-pub fn feed(c: Chain, mem: &mut [u8], s: &[u8]) -> Stepped
-    ensures { λ r. ⌜ runOf (run c (now (mem .entry)) more) (now (s .entry)) ≡ run (r .chain) (now (mem .exit)) (r .number) ⌝ }
+// Blocks from the front of a slice, as many as there are: data bytes as one block where it lies inside memory, as it does in every
+// sound state, and the five bytes before them at once where the window fits. The step is not in this loop, so that the run's
+// device, its size and where its memory begins are the same all through it.
+fn blocks(c: Chain, mem: &mut [u8], s: &[u8]) -> Front
+    ensures { λ r. ⌜ r .used ≤ length (now (s .entry)) ⌝ }
+    ensures { λ r. ⌜ runOf (run c (now (mem .entry)) more) (now (s .entry)) ≡ runOf (run (r .chain) (now (mem .exit)) more) (drop (r .used) (now (s .entry))) ⌝ }
 {
+    let a = c.place.awaited;
+    if (a != AT_NULL) & (a != AT_DATA) {
+        return Front { chain: c, used: 0 };
+    }
+    let ks = c.kinds;
+    let device = c.place.device;
+    let size = size_of(at8(ks, device));
+    let base = base_of(ks, device);
     let n = s.len();
     let mut d = c;
     let mut i: usize = 0;
     while i < n {
         if d.place.awaited == AT_DATA {
-            let at = address(d);
             let p = d.place;
+            let at = base + p.next as usize;
             let k = span(p, at, mem.len(), n - i);
             if 0 < k {
                 let e = i + k;
@@ -146,19 +163,45 @@ pub fn feed(c: Chain, mem: &mut [u8], s: &[u8]) -> Stepped
                 i = e;
                 continue;
             }
+            return Front { chain: d, used: i };
         }
-        if d.place.awaited == AT_NULL {
-            if 5 <= n - i {
-                let e = i + 5;
-                let start = pair(s[i + 1], s[i + 2]);
-                let end = pair(s[i + 3], s[i + 4]);
-                if fits(d, start, end) {
-                    let f = headed(d, start, end);
-                    d = f;
-                    i = e;
-                    continue;
-                }
-            }
+        if d.place.awaited != AT_NULL {
+            return Front { chain: d, used: i };
+        }
+        if n - i < 5 {
+            return Front { chain: d, used: i };
+        }
+        let e = i + 5;
+        let start = pair(s[i + 1], s[i + 2]);
+        let end = pair(s[i + 3], s[i + 4]);
+        if fits(size, start, end) {
+            let f = headed(d, start, end);
+            d = f;
+            i = e;
+            continue;
+        }
+        return Front { chain: d, used: i };
+    }
+    Front { chain: d, used: i }
+}
+
+// Bytes of an open run, up to its end: blocks, and between them byte by byte. The step is called here alone, so that it is compiled
+// into the loop.
+pub fn feed(c: Chain, mem: &mut [u8], s: &[u8]) -> Stepped
+    ensures { λ r. ⌜ runOf (run c (now (mem .entry)) more) (now (s .entry)) ≡ run (r .chain) (now (mem .exit)) (r .number) ⌝ }
+{
+    let n = s.len();
+    let mut d = c;
+    let mut i: usize = 0;
+    while i < n {
+        let f = blocks(d, mem, &s[i..]);
+        d = f.chain;
+        i += f.used;
+        if n <= i {
+            return Stepped {
+                chain: d,
+                number: MORE,
+            };
         }
         let b = s[i];
         i += 1;

@@ -1,6 +1,8 @@
 use mathlib.Core.Path.{_≡_, refl, ap, sym, _∙_}
 use Rattle.chain.proofs.Tests.{tests}
+use Rattle.chain.specs.declared.Place.{Place}
 use Rattle.machine.proofs.Block.{block}
+use Rattle.machine.proofs.Frame.{passed-device}
 use borrow.Author.Needs.{needs}
 use Rattle.machine.proofs.bulk.bulk.Statement.{statement}
 use Rattle.machine.proofs.bulk.bulk.Tie as tie
@@ -32,7 +34,10 @@ same-length c = search needs
 
 -- src/bulk.rt:42:1
 returns : tie.Need-returns
-returns c = block ((c .before .before .before .before .before .before .before .before .before .args .t) .now) (c .before .before .before .before .before .before .before .before .before .args .c) ((c .before .before .before .before .before .before .before .before .before .args .mem) .now) ((c .before .before .before .before .before .before .before .before .before .pre .0)) (search needs) (search needs) ∙ simp ((c .passed .ensures), (c .before .counting .ensures), (c .before .before .before .before .lay .ensures .0), (c .before .before .before .before .lay .ensures .1), (c .before .before .before .before .before .before .before .before .before .pre .1))
+returns c = (
+  block ((c .before .before .before .before .before .before .before .before .before .args .t) .now) (c .before .before .before .before .before .before .before .before .before .args .c) ((c .before .before .before .before .before .before .before .before .before .args .mem) .now) ((c .before .before .before .before .before .before .before .before .before .pre .0)) (search needs) (search needs) ∙ simp ((c .passed .ensures), (c .before .counting .ensures), (c .before .before .before .before .lay .ensures .0), (c .before .before .before .before .lay .ensures .1), (c .before .before .before .before .before .before .before .before .before .pre .1)),
+  (refl, ap (λ (q : Place). q .device) (c .passed .ensures) ∙ passed-device _ _ ∙ ap (λ (q : Place). q .device) (c .before .counting .ensures)),
+)
 
 pub bulk-spec : {M : Type 1} → statement M
 bulk-spec =
