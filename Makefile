@@ -1,5 +1,5 @@
 # make demo   lists a sample stream, then runs a controller's main loop in C: stop, close, start afresh; save, power off, pick up
-# make test   header, C example, comparison with the model, listing program on its inputs; then every proof, must-fail edit and program, from nothing: the last line is rt's own
+# make test   header, C example, comparison with the model, stack, listing program on its inputs; then every proof, must-fail edit and program, from nothing: the last line is rt's own
 # make lib    the archive for C: target/staticlib/libat6000.a
 # make bench  the archive against safe Rust and memcpy (docs/SPEED.md)
 # make fmt    lay out the Rattle sources
@@ -17,6 +17,7 @@ test: lib
 	sh tests/header/run.sh
 	sh examples/run.sh $(archive) | diff examples/controller.out -
 	sh tests/compare/run.sh $(archive)
+	sh tests/stack/run.sh $(archive)
 	rt check listing
 	sh tests/listing/run.sh $(listing)
 	rt ci
