@@ -65,7 +65,7 @@ pub fn well_formed(c: Chain, registers: [u8; 8], p: Place) -> bool
     )
 }
 
-// Number 17.
+// Number 17. Where no run is open, the rest of the place is no part of the state and is not tested.
 pub fn ill_formed(c: Chain) -> bool
     ensures { λ r. ⌜ r ≡ illFormed c ⌝ }
 {
@@ -73,9 +73,11 @@ pub fn ill_formed(c: Chain) -> bool
     let ks = c.kinds;
     let rs = c.registers;
     let p = c.place;
-    !unused_zero(ks, n)
-        | !unused_zero(rs, n)
-        | !((p.running == CLOSED) | (p.running == OPENED) & well_formed(c, rs, p))
+    let unused = !unused_zero(ks, n) | !unused_zero(rs, n);
+    if p.running == CLOSED {
+        return unused;
+    }
+    unused | !((p.running == OPENED) & well_formed(c, rs, p))
 }
 
 // What every call on a state gives before it looks at more: 1, then 17, or 0.
