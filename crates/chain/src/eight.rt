@@ -24,7 +24,7 @@ pub fn with8(xs: [u8; 8], i: u8, v: u8) -> [u8; 8]
     ys
 }
 
-// Past the first n of eight all are zero. All eight are gone through, so that the compiler has no loop to make.
+// Past the first n of eight all are zero. The number of turns does not depend on n, so that the compiler makes straight code of them.
 pub fn unused_zero(xs: [u8; 8], n: u8) -> bool
     ensures { λ r. ⌜ r ≡ unusedZero xs n ⌝ }
 {

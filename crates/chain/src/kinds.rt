@@ -9,7 +9,7 @@ const KINDS: [u8; 5] = [0, 2, 3, 5, 10];
 const SIZES: [u16; 5] = [52, 2665, 4141, 8065, 16381];
 
 // The size of a kind, 0 for an unknown one. The entries are tested one by one: in a loop the compiler would lay out both tables anew
-// at each call, and every window asks for a size.
+// at each look, and every call on a state asks for sizes.
 pub fn size_of(kind: u8) -> u16
     ensures { λ r. ⌜ r ≡ sizeOf kind ⌝ }
 {

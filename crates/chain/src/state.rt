@@ -73,11 +73,11 @@ pub fn ill_formed(c: Chain) -> bool
     let ks = c.kinds;
     let rs = c.registers;
     let p = c.place;
-    let unused = !unused_zero(ks, n) | !unused_zero(rs, n);
+    let stray = !unused_zero(ks, n) | !unused_zero(rs, n);
     if p.running == CLOSED {
-        return unused;
+        return stray;
     }
-    unused | !((p.running == OPENED) & well_formed(c, rs, p))
+    stray | !((p.running == OPENED) & well_formed(c, rs, p))
 }
 
 // What every call on a state gives before it looks at more: 1, then 17, or 0.

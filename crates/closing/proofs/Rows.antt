@@ -15,7 +15,7 @@ use Rattle.chain.specs.declared.Place.{Place}
 use Rattle.chain.specs.Paper.{postamble, no-windows, at·preamble, at·second, at·control, at·address, at·address2, at·address3, at·count, at·null, at·start, at·start-low, at·end, at·end-low, at·data, at·check, writing, done, no-preamble, bad-start, bad-end, more, B3}
 use Rattle.chain.specs.Rules.{pick}
 use Rattle.chain.specs.Set.{with·awaited, with·left, with·control, with·start, with·end, with·next, with·place}
-use Rattle.chain.specs.Kinds.{sizeOf, baseOf}
+use Rattle.chain.specs.Kinds.{sizeAt, baseOf}
 use Rattle.machine.specs.Byte.{awaits, checks, sizeHere, withLow, badStart, badEnd, noWindow, numberOf, passedOf, advanceOf}
 use Rattle.machine.specs.Run.{addressOf, memoryOf, registersOf, missedOf, counted, run, stepOf, runOf}
 use Rattle.machine.specs.Block.{missesOf}
@@ -176,7 +176,7 @@ passed-keeps f p n x y z =
 abbrev pub tailNumber : Place → ℕ
 tailNumber p = pick (ltb 1 (p .left)) bad-start done
 
-ends-tail : (c : Chain) (m : List ℕ) (p : Place) (n : ℕ) → sizeOf (getD (c .kinds) (p .device) 0) ≤ 65535 → p .end < p .next + n
+ends-tail : (c : Chain) (m : List ℕ) (p : Place) (n : ℕ) → sizeAt c (p .device) ≤ 65535 → p .end < p .next + n
     → Ends (with·place c (passedOf p n)) m (tail p) (tailNumber p)
 ends-tail c m p n s h =
     rw (window-over p n h) (by-test (ltb 1 (p .left)) (λ q. rw q (ends-7 _ m s refl)) (λ q. rw q (ends-13 _ m refl)))

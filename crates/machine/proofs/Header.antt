@@ -14,7 +14,7 @@ use Rattle.chain.specs.declared.Place.{Place}
 use Rattle.chain.specs.Paper.{at·control, at·null, at·start, at·start-low, at·end, at·end-low, at·data, more}
 use Rattle.chain.specs.Rules.{pick}
 use Rattle.chain.specs.Set.{with·awaited, with·start, with·end, with·next, with·place}
-use Rattle.chain.specs.Kinds.{sizeOf}
+use Rattle.chain.specs.Kinds.{sizeAt}
 use Rattle.machine.specs.Byte.{withLow, sizeHere, numberOf, advanceOf}
 use Rattle.machine.specs.Run.{memoryOf, registersOf, missedOf, counted, Run, run, stepOf, runOf}
 use Rattle.machine.specs.Block.{fitsOf, headedOf}
@@ -35,7 +35,7 @@ module _ (c : Chain) (m : List ℕ) where
   unfolding numberOf advanceOf
   s8 p b = plain-step (with·awaited p at·start) b (simp and-false) refl refl
 
-  s9 : (p : Place) (b : ℕ) → withLow (p .start) b < sizeOf (getD (c .kinds) (p .device) 0)
+  s9 : (p : Place) (b : ℕ) → withLow (p .start) b < sizeAt c (p .device)
       → stepOf (with·place c (with·awaited p at·start-low)) m b ≡ run (with·place c (with·awaited (with·start (counted p 1 0) (withLow (p .start) b)) at·end)) m more
   unfolding numberOf advanceOf
   s9 p b h = plain-step (with·awaited p at·start-low) b (simp (and-false, lt-ltb _ _ h)) refl refl
@@ -45,7 +45,7 @@ module _ (c : Chain) (m : List ℕ) where
   unfolding numberOf advanceOf
   s10 p b = plain-step (with·awaited p at·end) b (simp and-false) refl refl
 
-  s11 : (p : Place) (b : ℕ) → p .start ≤ withLow (p .end) b → withLow (p .end) b < sizeOf (getD (c .kinds) (p .device) 0)
+  s11 : (p : Place) (b : ℕ) → p .start ≤ withLow (p .end) b → withLow (p .end) b < sizeAt c (p .device)
       → stepOf (with·place c (with·awaited p at·end-low)) m b
       ≡ run (with·place c (with·awaited (with·next (with·end (counted p 1 0) (withLow (p .end) b)) (p .start)) at·data)) m more
   unfolding numberOf advanceOf
@@ -67,8 +67,8 @@ pair-low a b = ap (λ (x : ℕ). x * 256 + b) (mul-div-left a (lit< {m = 0} {n =
 
 module _ (c : Chain) (m : List ℕ) (b0 b1 b2 b3 b4 : ℕ) where
   -- null, start and end of a window that fits
-  header : (p : Place) → b1 * 256 + b2 < sizeOf (getD (c .kinds) (p .device) 0) → b1 * 256 + b2 ≤ b3 * 256 + b4
-      → b3 * 256 + b4 < sizeOf (getD (c .kinds) (p .device) 0)
+  header : (p : Place) → b1 * 256 + b2 < sizeAt c (p .device) → b1 * 256 + b2 ≤ b3 * 256 + b4
+      → b3 * 256 + b4 < sizeAt c (p .device)
       → runOf (run (with·place c (with·awaited p at·null)) m more) (b0 ∷ b1 ∷ b2 ∷ b3 ∷ b4 ∷ [])
       ≡ run (with·place c (headedOf p (b1 * 256 + b2) (b3 * 256 + b4))) m more
   unfolding runOf
@@ -84,8 +84,8 @@ module _ (c : Chain) (m : List ℕ) (b0 b1 b2 b3 b4 : ℕ) where
       ∙ s11 c m p4 b4 (rw (pair-low b1 b2, pair-low b3 b4) g) (rw (pair-low b3 b4) k)
       ∙ rw (pair-low b1 b2, pair-low b3 b4, five-counts (p .taken), five-none (p .mismatches))
 
-  pub header-at : c .place .awaited ≡ at·null → b1 * 256 + b2 < sizeOf (getD (c .kinds) (c .place .device) 0)
-      → b1 * 256 + b2 ≤ b3 * 256 + b4 → b3 * 256 + b4 < sizeOf (getD (c .kinds) (c .place .device) 0)
+  pub header-at : c .place .awaited ≡ at·null → b1 * 256 + b2 < sizeHere c
+      → b1 * 256 + b2 ≤ b3 * 256 + b4 → b3 * 256 + b4 < sizeHere c
       → runOf (run c m more) (b0 ∷ b1 ∷ b2 ∷ b3 ∷ b4 ∷ []) ≡ run (with·place c (headedOf (c .place) (b1 * 256 + b2) (b3 * 256 + b4))) m more
   header-at e h g k =
       ap (λ (a : ℕ). runOf (run (with·place c (with·awaited (c .place) a)) m more) (b0 ∷ b1 ∷ b2 ∷ b3 ∷ b4 ∷ [])) e

@@ -14,7 +14,7 @@ use Rattle.chain.specs.declared.Place.{Place}
 use Rattle.chain.specs.Paper.{closed, opened, most-devices, most-memory, first-mode, two-preambles, writing, checking, at·preamble, at·check}
 use Rattle.chain.specs.Rules.{allFrom, allOf, from}
 use Rattle.chain.specs.Set.{with·awaited}
-use Rattle.chain.specs.Kinds.{sizeOf, baseOf, knownOf}
+use Rattle.chain.specs.Kinds.{sizeAt, baseOf, knownOf}
 use Rattle.chain.specs.State.{badChain, illFormed, formed, wellFormed, unusedZero}
 use Rattle.saved.proofs.Ranged.{Narrow}
 
@@ -108,9 +108,9 @@ module _ (p : Place) (count : ℕ) (unused : Bool) (g size : ℕ) where
       )
 
 module _ (c : Chain) (len : ℕ) (g : List ℕ) (p : Place) (h : badChain (c .count) (c .kinds) len ≡ false) (w : wellFormed c g p ≡ true) where
-  rows : Rows p (c .count) (unusedZero g (c .count)) (getD g (p .device) 0) (sizeOf (getD (c .kinds) (p .device) 0)) (p .awaited)
+  rows : Rows p (c .count) (unusedZero g (c .count)) (getD g (p .device) 0) (sizeAt c (p .device)) (p .awaited)
   unfolding wellFormed
-  rows = row (formed p (c .count) (unusedZero g (c .count)) (getD g (p .device) 0) (sizeOf (getD (c .kinds) (p .device) 0))) w
+  rows = row (formed p (c .count) (unusedZero g (c .count)) (getD g (p .device) 0) (sizeAt c (p .device))) w
 
   count-le : c .count ≤ most-devices
   unfolding badChain
@@ -139,7 +139,7 @@ module _ (c : Chain) (len : ℕ) (g : List ℕ) (p : Place) (h : badChain (c .co
   next-fits e =
       let a : p .awaited ≤ at·check = at-most at·preamble at·check (p .awaited) (rows 2) in
       let l : p .next ≤ p .end =
-      next-le-end p (c .count) (unusedZero g (c .count)) (getD g (p .device) 0) (sizeOf (getD (c .kinds) (p .device) 0)) (p .awaited) (omega arith) rows
+      next-le-end p (c .count) (unusedZero g (c .count)) (getD g (p .device) 0) (sizeAt c (p .device)) (p .awaited) (omega arith) rows
       in
       omega arith
 
@@ -165,4 +165,4 @@ kinds-unused c h =
 
 pub registers-unused : (c : Chain) (g : List ℕ) (p : Place) → wellFormed c g p ≡ true → unusedZero g (c .count) ≡ true
 unfolding wellFormed
-registers-unused c g p w = row (formed p (c .count) (unusedZero g (c .count)) (getD g (p .device) 0) (sizeOf (getD (c .kinds) (p .device) 0))) w 4
+registers-unused c g p w = row (formed p (c .count) (unusedZero g (c .count)) (getD g (p .device) 0) (sizeAt c (p .device))) w 4

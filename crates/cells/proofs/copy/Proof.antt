@@ -20,39 +20,30 @@ Inv-loop dst₀ src n i₀ dst i = (i ≤ n) × (length dst ≡ length dst₀) �
 abbrev μ-loop : tie.MeasureT-loop
 μ-loop dst₀ src n i₀ dst i = n - i
 
--- src/lib.rt:19:9
 least-requires : tie.Need-least-requires Inv-loop μ-loop
 least-requires c κs = search needs
 
--- src/lib.rt:21:5
 loop-holds : tie.Need-loop-holds Inv-loop μ-loop
 loop-holds c = (search needs, refl, refl)
 
--- src/lib.rt:22:18
 shared-slice-read-dst : tie.Need-shared-slice-read-dst Inv-loop μ-loop
 shared-slice-read-dst c = search needs
 
--- src/lib.rt:22:9
 slice-write-dst : tie.Need-slice-write-dst Inv-loop μ-loop
 slice-write-dst c = search needs
 
--- src/lib.rt:23:9
 add-i : tie.Need-add-i Inv-loop μ-loop
 add-i c = search needs
 
--- src/lib.rt:21:5
 loop-less : tie.Need-loop-less Inv-loop μ-loop
 loop-less c = search needs
 
--- src/lib.rt:21:5
 loop-again : tie.Need-loop-again Inv-loop μ-loop
 loop-again c = (search needs, search needs, (c .before .before .loop .inv .2) ∙ copy-turn (c .before .before .loop .dst) ((c .before .before .before .before .before .before .args .src) .now) (c .before .before .loop .i) (search needs))
 
--- src/lib.rt:16:1
 same-length : tie.Need-same-length Inv-loop μ-loop
 same-length c = search needs
 
--- src/lib.rt:16:1
 returns : tie.Need-returns Inv-loop μ-loop
 returns c = sym ((c .before .loop .inv .2) ∙ copy-end (c .before .loop .dst) ((c .before .before .before .before .before .args .src) .now) (c .before .loop .i) (⊎-elim (λ e. inl (omega arith)) (λ e. inr (omega arith)) ((c .before .before .least .ensures .2))))
 

@@ -6,11 +6,9 @@ use Rattle.cells.proofs.least.Tie as tie
 use Rattle.cells.proofs.least.Reads as reads
 use Rattle.cells.proofs.least.Lts as lts
 
--- src/lib.rt:9:1
 returns : tie.Need-returns
 returns c = (search needs, search needs, inl refl)
 
--- src/lib.rt:9:1
 returns-2 : tie.Need-returns-2
 returns-2 c = (search needs, search needs, inr refl)
 

@@ -20,31 +20,24 @@ Inv-loop mem₀ n i₀ mem i = (length mem ≡ length mem₀) × (i ≤ n) × (t
 abbrev μ-loop : tie.MeasureT-loop
 μ-loop mem₀ n i₀ mem i = n - i
 
--- src/lib.rt:121:5
 loop-holds : tie.Need-loop-holds Inv-loop μ-loop
 loop-holds c = (refl, search needs, refl)
 
--- src/lib.rt:122:9
 slice-write-mem : tie.Need-slice-write-mem Inv-loop μ-loop
 slice-write-mem c = search needs
 
--- src/lib.rt:123:9
 add-i : tie.Need-add-i Inv-loop μ-loop
 add-i c = search needs
 
--- src/lib.rt:121:5
 loop-less : tie.Need-loop-less Inv-loop μ-loop
 loop-less c = search needs
 
--- src/lib.rt:121:5
 loop-again : tie.Need-loop-again Inv-loop μ-loop
 loop-again c = (search needs, search needs, clear-turn (c .before .loop .mem) (c .before .loop .i) (search needs) (c .before .loop .inv .2))
 
--- src/lib.rt:116:1
 same-length : tie.Need-same-length Inv-loop μ-loop
 same-length c = search needs
 
--- src/lib.rt:116:1
 returns : tie.Need-returns Inv-loop μ-loop
 returns c = clear-end (c .before .loop .mem) (c .before .loop .i) (length ((c .before .before .args .mem) .now)) (search needs) (omega arith) (c .before .loop .inv .2)
 

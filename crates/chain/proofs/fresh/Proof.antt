@@ -6,15 +6,12 @@ use Rattle.chain.proofs.fresh.Lts as lts
 use Rattle.chain.proofs.closed_place.Reads as closed-place-reads
 use Rattle.chain.proofs.eight.first_only.Reads as first-only-reads
 
--- src/lib.rt:74:9
 first-only-requires : tie.Need-first-only-requires
 first-only-requires c κs = search needs
 
--- src/lib.rt:76:9
 closed-place-requires : tie.Need-closed-place-requires
 closed-place-requires c κs = search needs
 
--- src/lib.rt:71:1
 returns : tie.Need-returns
 returns c = simp (c .closed-place .ensures, c .before .first-only .ensures)
 

@@ -8,24 +8,19 @@ use Rattle.chain.proofs.fresh.Reads as fresh-reads
 use Rattle.chain.proofs.no_chain.Reads as no-chain-reads
 use Rattle.chain.proofs.state.bad_chain.Reads as bad-chain-reads
 
--- src/lib.rt:102:8
 bad-chain-requires : tie.Need-bad-chain-requires
 bad-chain-requires c κs = search needs
 
--- src/lib.rt:103:13
 no-chain-requires : tie.Need-no-chain-requires
 no-chain-requires c κs = search needs
 
--- src/lib.rt:104:9
 returns : tie.Need-returns
 unfolding newOf chainNumber
 returns c = record { made = simp (c .no-chain .ensures, ← c .before .before .bad-chain .ensures, c .before .if1 .taken) }
 
--- src/lib.rt:109:9
 fresh-requires : tie.Need-fresh-requires
 fresh-requires c κs = search needs
 
--- src/lib.rt:99:1
 returns-2 : tie.Need-returns-2
 unfolding newOf chainNumber
 returns-2 c = record { made = simp (c .fresh .ensures, ← c .before .before .bad-chain .ensures, c .before .if1 .left) }

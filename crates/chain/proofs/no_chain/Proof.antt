@@ -5,11 +5,9 @@ use Rattle.chain.proofs.no_chain.Reads as reads
 use Rattle.chain.proofs.no_chain.Lts as lts
 use Rattle.chain.proofs.closed_place.Reads as closed-place-reads
 
--- src/lib.rt:89:9
 closed-place-requires : tie.Need-closed-place-requires
 closed-place-requires c κs = search needs
 
--- src/lib.rt:85:1
 returns : tie.Need-returns
 returns c = simp (c .closed-place .ensures)
 

@@ -9,28 +9,22 @@ use Rattle.chain.proofs.clear.Reads as clear-reads
 use Rattle.chain.proofs.fresh.Reads as fresh-reads
 use Rattle.chain.proofs.state.bad_chain.Reads as bad-chain-reads
 
--- src/lib.rt:132:8
 bad-chain-requires : tie.Need-bad-chain-requires
 bad-chain-requires c κs = search needs
 
--- src/lib.rt:133:9
 returns : tie.Need-returns
 unfolding resetOf resetMemory chainNumber
 returns c = record { made = simp (← c .before .bad-chain .ensures, c .if1 .taken); memory = simp (← c .before .bad-chain .ensures, c .if1 .taken) }
 
--- src/lib.rt:138:5
 clear-requires : tie.Need-clear-requires
 clear-requires c κs = search needs
 
--- src/lib.rt:139:9
 fresh-requires : tie.Need-fresh-requires
 fresh-requires c κs = search needs
 
--- src/lib.rt:128:1
 same-length : tie.Need-same-length
 same-length c = search needs
 
--- src/lib.rt:128:1
 returns-2 : tie.Need-returns-2
 unfolding resetOf resetMemory chainNumber
 returns-2 c = record { made = simp (c .fresh .ensures, ← c .before .before .before .before .before .before .bad-chain .ensures, c .before .before .before .before .before .if1 .left); memory = c .before .before .before .clear .ensures ∙ simp (← c .before .before .before .before .before .before .bad-chain .ensures, c .before .before .before .before .before .if1 .left) }

@@ -8,23 +8,18 @@ use Rattle.closing.proofs.closing.Lts as lts
 use Rattle.chain.proofs.state.open_number.Reads as open-number-reads
 use Rattle.closing.proofs.put_closing.Reads as put-closing-reads
 
--- src/lib.rt:118:9
 open-number-requires : tie.Need-open-number-requires
 open-number-requires c κs = search needs
 
--- src/lib.rt:120:9
 returns : tie.Need-returns
 returns c = meets-refused (c .before .before .before .before .args .c) ((c .before .before .before .before .args .mem) .now) ((c .before .before .before .before .args .out) .now) (c .before .open-number .result) (c .before .open-number .ensures) (c .if1 .taken)
 
--- src/lib.rt:122:5
 put-closing-requires : tie.Need-put-closing-requires
 put-closing-requires c κs = search needs
 
--- src/lib.rt:115:1
 same-length : tie.Need-same-length
 same-length c = search needs
 
--- src/lib.rt:115:1
 returns-2 : tie.Need-returns-2
 returns-2 c = meets-put (c .before .before .before .before .before .before .before .before .args .c) ((c .before .before .before .before .before .before .before .before .args .mem) .now) ((c .before .before .before .before .before .before .before .before .args .out) .now) (c .before .before .put-closing .result) _ (sym (c .before .before .before .before .before .open-number .ensures) ∙ (c .before .before .before .before .if1 .left)) (c .before .before .put-closing .ensures)
 

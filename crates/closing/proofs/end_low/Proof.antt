@@ -5,11 +5,9 @@ use Rattle.closing.proofs.end_low.Tie as tie
 use Rattle.closing.proofs.end_low.Reads as reads
 use Rattle.closing.proofs.end_low.Lts as lts
 
--- src/lib.rt:61:1
 returns : tie.Need-returns
 returns c = (search tests, search needs)
 
--- src/lib.rt:61:1
 returns-2 : tie.Need-returns-2
 returns-2 c = (search tests, search needs)
 

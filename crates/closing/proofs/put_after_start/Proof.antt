@@ -8,51 +8,39 @@ use Rattle.chain.proofs.eight.at8.Reads as at8-reads
 use Rattle.chain.proofs.kinds.size_of.Reads as size-of-reads
 use Rattle.closing.proofs.output.put.Reads as put-reads
 
--- src/lib.rt:53:24
 at8-requires : tie.Need-at8-requires
 at8-requires c κs = search needs
 
--- src/lib.rt:53:9
 size-of-requires : tie.Need-size-of-requires
 size-of-requires c κs = search needs
 
--- src/lib.rt:54:8
 mul-if1 : tie.Need-mul-if1
 mul-if1 c = search needs
 
--- src/lib.rt:54:8
 add-if1 : tie.Need-add-if1
 add-if1 c = search needs
 
--- src/lib.rt:55:25
 slice-aggregate-put : tie.Need-slice-aggregate-put
 slice-aggregate-put c = search needs
 
--- src/lib.rt:55:9
 put-requires : tie.Need-put-requires
 put-requires c κs = search needs
 
--- src/lib.rt:55:9
 same-length : tie.Need-same-length
 same-length c = search needs
 
--- src/lib.rt:55:9
 returns : tie.Need-returns
 returns c = simp (← (c .before .before .before .before .before .before .before .before .at8 .ensures), ← (c .before .before .before .before .before .before .before .size-of .ensures), lt-ltb _ _ (c .before .before .before .before .before .if1 .taken)) (c .before .before .put .ensures)
 
--- src/lib.rt:57:14
 slice-aggregate-put-2 : tie.Need-slice-aggregate-put-2
 slice-aggregate-put-2 c = search needs
 
--- src/lib.rt:57:5
 put-requires-2 : tie.Need-put-requires-2
 put-requires-2 c κs = search needs
 
--- src/lib.rt:49:1
 same-length-2 : tie.Need-same-length-2
 same-length-2 c = search needs
 
--- src/lib.rt:49:1
 returns-2 : tie.Need-returns-2
 returns-2 c = simp (← (c .before .before .before .before .before .before .before .before .at8 .ensures), ← (c .before .before .before .before .before .before .before .size-of .ensures), le-ltb _ _ (c .before .before .before .before .before .if1 .left)) (c .before .before .put2 .ensures)
 

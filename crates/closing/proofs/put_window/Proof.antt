@@ -9,51 +9,39 @@ use Rattle.closing.proofs.output.part.Reads as part-reads
 use Rattle.closing.proofs.output.put_three.Reads as put-three-reads
 use Rattle.closing.proofs.width.Reads as width-reads
 
--- src/lib.rt:41:14
 base-of-requires : tie.Need-base-of-requires
 base-of-requires c κs = search needs
 
--- src/lib.rt:41:14
 add-at : tie.Need-add-at
 add-at c = search needs
 
--- src/lib.rt:42:31
 width-requires : tie.Need-width-requires
 width-requires c κs = search needs
 
--- src/lib.rt:42:9
 part-requires : tie.Need-part-requires
 part-requires c κs = search needs
 
--- src/lib.rt:44:44
 slice-aggregate-put-three : tie.Need-slice-aggregate-put-three
 slice-aggregate-put-three c = search needs
 
--- src/lib.rt:44:9
 put-three-requires : tie.Need-put-three-requires
 put-three-requires c κs = search needs
 
--- src/lib.rt:44:9
 same-length : tie.Need-same-length
 same-length c = search needs
 
--- src/lib.rt:44:9
 returns : tie.Need-returns
 returns c = rw (lt-ltb 1 ((c .before .before .before .before .before .before .before .before .before .before .before .before .before .before .args .c) .place .left) (c .before .before .before .before .before .if1 .taken)) (rw ((c .before .before .before .before .before .before .before .part .ensures) .0, (c .before .before .before .before .before .before .before .before .width .ensures) .0, (c .before .before .before .before .before .before .before .before .before .base-of .ensures) .0) at (c .before .before .put-three .ensures))
 
--- src/lib.rt:46:33
 slice-aggregate-put-three-2 : tie.Need-slice-aggregate-put-three-2
 slice-aggregate-put-three-2 c = search needs
 
--- src/lib.rt:46:5
 put-three-requires-2 : tie.Need-put-three-requires-2
 put-three-requires-2 c κs = search needs
 
--- src/lib.rt:36:1
 same-length-2 : tie.Need-same-length-2
 same-length-2 c = search needs
 
--- src/lib.rt:36:1
 returns-2 : tie.Need-returns-2
 returns-2 c = rw (le-ltb 1 ((c .before .before .before .before .before .before .before .before .before .before .before .before .before .before .args .c) .place .left) (c .before .before .before .before .before .if1 .left)) (rw ((c .before .before .before .before .before .before .before .part .ensures) .0, (c .before .before .before .before .before .before .before .before .width .ensures) .0, (c .before .before .before .before .before .before .before .before .before .base-of .ensures) .0) at (c .before .before .put-three2 .ensures))
 

@@ -10,28 +10,22 @@ use Rattle.chain.proofs.state.open_number.Reads as open-number-reads
 use Rattle.machine.proofs.run.feed.Reads as feed-reads
 use Rattle.machine.proofs.run.finish.Reads as finish-reads
 
--- src/lib.rt:94:9
 open-number-requires : tie.Need-open-number-requires
 open-number-requires c κs = search needs
 
--- src/lib.rt:96:13
 feed-requires : tie.Need-feed-requires
 feed-requires c κs = search needs
 
--- src/lib.rt:97:9
 finish-requires : tie.Need-finish-requires
 finish-requires c κs = search needs
 
--- src/lib.rt:97:9
 same-length : tie.Need-same-length
 same-length c = search needs
 
--- src/lib.rt:97:9
 returns : tie.Need-returns
 unfolding sliceOf sliceMemory
 returns c = record { fed = (c .finish .ensures) ∙ simp (← (c .before .before .before .before .before .before .before .open-number .ensures), (c .before .before .before .before .before .before .if1 .taken), (c .before .before .before .before .feed .ensures)); memory = simp (← (c .before .before .before .before .before .before .before .open-number .ensures), (c .before .before .before .before .before .before .if1 .taken), (c .before .before .before .before .feed .ensures)) }
 
--- src/lib.rt:91:1
 returns-2 : tie.Need-returns-2
 unfolding sliceOf sliceMemory
 returns-2 c = record { fed = simp (← (c .before .open-number .ensures)) (search tests); memory = simp (← (c .before .open-number .ensures)) (search tests) }

@@ -11,30 +11,24 @@ use Rattle.machine.proofs.start.Lts as lts
 use Rattle.chain.proofs.state.state_number.Reads as state-number-reads
 use Rattle.machine.proofs.task.Reads as task-reads
 
--- src/lib.rt:48:9
 state-number-requires : tie.Need-state-number-requires
 state-number-requires c κs = search needs
 
--- src/lib.rt:50:9
 returns : tie.Need-returns
 unfolding startOf
 returns c = record { made = simp (start-gives (c .before .before .before .args .c) (length ((c .before .before .before .args .mem) .now)) (c .before .before .before .args .mode) (λ e. (c .if1 .taken) ((c .before .state-number .ensures) ∙ e)), ← (c .before .state-number .ensures)) (search tests) }
 
--- src/lib.rt:56:9
 returns-2 : tie.Need-returns-2
 unfolding startOf
 returns-2 c = record { made = simp (start-passes (c .before .before .before .before .args .c) (length ((c .before .before .before .before .args .mem) .now)) (c .before .before .before .before .args .mode) (sym (c .before .before .state-number .ensures) ∙ (c .before .if1 .left)), (c .if2 .taken)) }
 
--- src/lib.rt:62:9
 returns-3 : tie.Need-returns-3
 unfolding startOf
 returns-3 c = record { made = simp (start-passes (c .before .before .before .before .before .before .args .c) (length ((c .before .before .before .before .before .before .args .mem) .now)) (c .before .before .before .before .before .before .args .mode) (sym (c .before .before .before .before .state-number .ensures) ∙ (c .before .before .before .if1 .left)), (c .before .before .if2 .left)) (search tests) }
 
--- src/lib.rt:68:9
 task-requires : tie.Need-task-requires
 task-requires c κs = search needs
 
--- src/lib.rt:45:1
 returns-4 : tie.Need-returns-4
 unfolding startOf
 returns-4 c = record { made = simp (start-passes (c .before .before .before .before .before .before .before .args .c) (length ((c .before .before .before .before .before .before .before .args .mem) .now)) (c .before .before .before .before .before .before .before .args .mode) (sym (c .before .before .before .before .before .state-number .ensures) ∙ (c .before .before .before .before .if1 .left)), (c .before .before .before .if2 .left), (c .task .ensures)) (search tests) }

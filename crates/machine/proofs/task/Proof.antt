@@ -5,11 +5,9 @@ use Rattle.machine.proofs.task.Tie as tie
 use Rattle.machine.proofs.task.Reads as reads
 use Rattle.machine.proofs.task.Lts as lts
 
--- src/lib.rt:39:9
 returns : tie.Need-returns
 returns c = search tests
 
--- src/lib.rt:35:1
 returns-2 : tie.Need-returns-2
 returns-2 c = search tests
 

@@ -17,28 +17,22 @@ Inv-loop n ys₀ i₀ ys i = (length ys ≡ 8) × (firstOnly n ys₀ ≡ take i 
 abbrev μ-loop : tie.MeasureT-loop
 μ-loop n ys₀ i₀ ys i = 8 - i
 
--- src/eight.rt:47:5
 loop-holds : tie.Need-loop-holds Inv-loop μ-loop
 unfolding firstOnly
 loop-holds c = let eight : length (c .args .xs) ≡ 8 = search needs in (search needs, rw eight)
 
--- src/eight.rt:48:9
 array-write-ys : tie.Need-array-write-ys Inv-loop μ-loop
 array-write-ys c = search needs
 
--- src/eight.rt:49:9
 add-i : tie.Need-add-i Inv-loop μ-loop
 add-i c = search needs
 
--- src/eight.rt:47:5
 loop-less : tie.Need-loop-less Inv-loop μ-loop
 loop-less c = search needs
 
--- src/eight.rt:47:5
 loop-again : tie.Need-loop-again Inv-loop μ-loop
 loop-again c = (search needs, (c .before .loop .inv .1) ∙ first-turn (c .before .loop .ys) (c .before .loop .i) (search needs) (search needs))
 
--- src/eight.rt:42:1
 returns : tie.Need-returns Inv-loop μ-loop
 returns c = sym ((c .before .loop .inv .1) ∙ first-end (c .before .loop .ys) (c .before .loop .i) (search needs) (search needs))
 

@@ -8,25 +8,20 @@ use Rattle.chain.proofs.state.state_number.Lts as lts
 use Rattle.chain.proofs.state.bad_chain.Reads as bad-chain-reads
 use Rattle.chain.proofs.state.ill_formed.Reads as ill-formed-reads
 
--- src/state.rt:86:8
 bad-chain-requires : tie.Need-bad-chain-requires
 bad-chain-requires c κs = search needs
 
--- src/state.rt:87:9
 returns : tie.Need-returns
 unfolding stateNumber openNumber
 returns c = simp (← (c .before .bad-chain .ensures), (c .if1 .taken))
 
--- src/state.rt:89:8
 ill-formed-requires : tie.Need-ill-formed-requires
 ill-formed-requires c κs = search needs
 
--- src/state.rt:90:9
 returns-2 : tie.Need-returns-2
 unfolding stateNumber openNumber
 returns-2 c = simp (← (c .before .before .before .bad-chain .ensures), (c .before .before .if1 .left), ← (c .before .ill-formed .ensures), (c .if2 .taken))
 
--- src/state.rt:82:1
 returns-3 : tie.Need-returns-3
 unfolding stateNumber openNumber
 returns-3 c = simp (← (c .before .before .before .bad-chain .ensures), (c .before .before .if1 .left), ← (c .before .ill-formed .ensures), (c .if2 .left))

@@ -9,27 +9,21 @@ use Rattle.chain.proofs.eight.unused_zero.Reads as unused-zero-reads
 use Rattle.chain.proofs.kinds.size_of.Reads as size-of-reads
 use Rattle.chain.proofs.state.is_formed.Reads as is-formed-reads
 
--- src/state.rt:62:9
 unused-zero-requires : tie.Need-unused-zero-requires
 unused-zero-requires c κs = search needs
 
--- src/state.rt:63:9
 at8-requires : tie.Need-at8-requires
 at8-requires c κs = search needs
 
--- src/state.rt:64:17
 at8-requires-2 : tie.Need-at8-requires-2
 at8-requires-2 c κs = search needs
 
--- src/state.rt:64:9
 size-of-requires : tie.Need-size-of-requires
 size-of-requires c κs = search needs
 
--- src/state.rt:59:5
 is-formed-requires : tie.Need-is-formed-requires
 is-formed-requires c κs = search needs
 
--- src/state.rt:54:1
 returns : tie.Need-returns
 unfolding wellFormed
 returns c = cc

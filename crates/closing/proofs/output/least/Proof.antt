@@ -6,11 +6,9 @@ use Rattle.closing.proofs.output.least.Tie as tie
 use Rattle.closing.proofs.output.least.Reads as reads
 use Rattle.closing.proofs.output.least.Lts as lts
 
--- src/output.rt:12:1
 returns : tie.Need-returns
 returns c = (search needs, search needs, inl refl)
 
--- src/output.rt:12:1
 returns-2 : tie.Need-returns-2
 returns-2 c = (search needs, search needs, inr refl)
 

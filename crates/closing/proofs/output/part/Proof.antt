@@ -6,35 +6,27 @@ use Rattle.closing.proofs.output.part.Reads as reads
 use Rattle.closing.proofs.output.part.Lts as lts
 use Rattle.closing.proofs.output.least.Reads as least-reads
 
--- src/output.rt:22:9
 least-requires : tie.Need-least-requires
 least-requires c κs = search needs
 
--- src/output.rt:23:26
 sub-least : tie.Need-sub-least
 sub-least c = search needs
 
--- src/output.rt:23:17
 least-requires-2 : tie.Need-least-requires-2
 least-requires-2 c κs = search needs
 
--- src/output.rt:23:13
 add-e : tie.Need-add-e
 add-e c = search needs
 
--- src/output.rt:24:5
 sub-result : tie.Need-sub-result
 sub-result c = search needs
 
--- src/output.rt:24:5
 part-result-start : tie.Need-part-result-start
 part-result-start c = search needs
 
--- src/output.rt:24:5
 part-result-end : tie.Need-part-result-end
 part-result-end c = search needs
 
--- src/output.rt:19:1
 returns : tie.Need-returns
 returns c = let m = (c .before .before .before .before .args .mem) .now in
     (part-is m (c .before .before .before .before .args .at) (c .before .before .before .before .args .n) (c .before .before .least .result) (c .before .least2 .result) (search needs) (search needs) (search needs) (search needs) ((c .before .before .least .ensures) .2) ((c .before .least2 .ensures) .2), part-short m (c .before .before .before .before .args .at) (c .before .before .before .before .args .n) (c .before .before .least .result) (c .before .least2 .result) (search needs) (search needs) (search needs) (search needs))

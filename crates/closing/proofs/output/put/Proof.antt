@@ -7,19 +7,15 @@ use Rattle.closing.proofs.output.put.Reads as reads
 use Rattle.closing.proofs.output.put.Lts as lts
 use Rattle.cells.proofs.copy.Reads as copy-reads
 
--- src/output.rt:33:9
 returns : tie.Need-returns
 returns c = put-short ((c .before .before .before .args .bytes) .now) ((c .before .before .before .args .out) .now) (c .if1 .taken)
 
--- src/output.rt:38:5
 copy-requires : tie.Need-copy-requires
 copy-requires c κs = search needs
 
--- src/output.rt:28:1
 same-length : tie.Need-same-length
 same-length c = search needs
 
--- src/output.rt:28:1
 returns-2 : tie.Need-returns-2
 returns-2 c = put-done ((c .before .before .before .before .before .before .before .args .bytes) .now) ((c .before .before .before .before .before .before .before .args .out) .now) _ ((c .before .before .copy) .last .0) (c .before .before .before .before .if1 .left) refl (c .before .before .copy .ensures)
 

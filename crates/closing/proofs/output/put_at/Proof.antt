@@ -6,27 +6,21 @@ use Rattle.closing.proofs.output.put_at.Reads as reads
 use Rattle.closing.proofs.output.put_at.Lts as lts
 use Rattle.cells.proofs.copy.Reads as copy-reads
 
--- src/output.rt:51:10
 sub-copy : tie.Need-sub-copy
 sub-copy c = search needs
 
--- src/output.rt:51:10
 part-copy-start : tie.Need-part-copy-start
 part-copy-start c = search needs
 
--- src/output.rt:51:10
 part-copy-end : tie.Need-part-copy-end
 part-copy-end c = search needs
 
--- src/output.rt:51:5
 copy-requires : tie.Need-copy-requires
 copy-requires c κs = search needs
 
--- src/output.rt:47:1
 same-length : tie.Need-same-length
 same-length c = search needs
 
--- src/output.rt:47:1
 returns : tie.Need-returns
 returns c = put-from ((c .before .before .before .before .before .before .args .out) .now) ((c .before .before .copy) .last .0) ((c .before .before .before .before .before .before .args .bytes) .now) (c .before .before .before .before .before .before .args .at) (search needs) (c .before .before .copy .ensures)
 

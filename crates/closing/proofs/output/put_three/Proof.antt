@@ -7,38 +7,30 @@ use Rattle.closing.proofs.output.put_three.Reads as reads
 use Rattle.closing.proofs.output.put_three.Lts as lts
 use Rattle.closing.proofs.output.put_at.Reads as put-at-reads
 
--- src/output.rt:60:13
 add-j : tie.Need-add-j
 add-j c = search needs
 
--- src/output.rt:61:13
 add-n : tie.Need-add-n
 add-n c = search needs
 
--- src/output.rt:63:9
 returns : tie.Need-returns
 returns c = let a = (c .before .before .before .before .before .args .lead) .now in
     let b = (c .before .before .before .before .before .args .cells) .now in
     let d = (c .before .before .before .before .before .args .end) .now in
     put-short (a ++ (b ++ d)) ((c .before .before .before .before .before .args .out) .now) (rw (three-length a b d ((c .before .before .before .before .before .args .out) .now)) at (c .if1 .taken))
 
--- src/output.rt:68:5
 put-at-requires : tie.Need-put-at-requires
 put-at-requires c κs = search needs
 
--- src/output.rt:69:5
 put-at-requires-2 : tie.Need-put-at-requires-2
 put-at-requires-2 c κs = search needs
 
--- src/output.rt:70:5
 put-at-requires-3 : tie.Need-put-at-requires-3
 put-at-requires-3 c κs = search needs
 
--- src/output.rt:55:1
 same-length : tie.Need-same-length
 same-length c = search needs
 
--- src/output.rt:55:1
 returns-2 : tie.Need-returns-2
 returns-2 c = let a = (c .before .before .before .before .before .before .before .before .before .before .before .before .before .before .before .before .before .args .lead) .now in
     let b = (c .before .before .before .before .before .before .before .before .before .before .before .before .before .before .before .before .before .args .cells) .now in

@@ -12,27 +12,21 @@ use Rattle.machine.proofs.bulk.counting.Reads as counting-reads
 use Rattle.machine.proofs.bulk.lay.Reads as lay-reads
 use Rattle.machine.proofs.one_byte.passed.Reads as passed-reads
 
--- src/bulk.rt:48:9
 lay-requires : tie.Need-lay-requires
 lay-requires c κs = search needs
 
--- src/bulk.rt:50:32
 cast-counting : tie.Need-cast-counting
 cast-counting c = search needs
 
--- src/bulk.rt:50:20
 counting-requires : tie.Need-counting-requires
 counting-requires c κs = search needs
 
--- src/bulk.rt:50:9
 passed-requires : tie.Need-passed-requires
 passed-requires c κs = search needs
 
--- src/bulk.rt:42:1
 same-length : tie.Need-same-length
 same-length c = search needs
 
--- src/bulk.rt:42:1
 returns : tie.Need-returns
 returns c = (
   block ((c .before .before .before .before .before .before .before .before .before .args .t) .now) (c .before .before .before .before .before .before .before .before .before .args .c) ((c .before .before .before .before .before .before .before .before .before .args .mem) .now) ((c .before .before .before .before .before .before .before .before .before .pre .0)) (search needs) (search needs) ∙ simp ((c .passed .ensures), (c .before .counting .ensures), (c .before .before .before .before .lay .ensures .0), (c .before .before .before .before .lay .ensures .1), (c .before .before .before .before .before .before .before .before .before .pre .1)),

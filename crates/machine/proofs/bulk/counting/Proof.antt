@@ -7,15 +7,12 @@ use Rattle.machine.proofs.bulk.counting.Reads as reads
 use Rattle.machine.proofs.bulk.counting.Lts as lts
 use Rattle.std.proofs.num.wrapping_add_u32.Reads as wrapping-add-u32-reads
 
--- src/bulk.rt:20:5
 wrapping-add-u32-requires : tie.Need-wrapping-add-u32-requires
 wrapping-add-u32-requires c κs = search needs
 
--- src/bulk.rt:21:5
 wrapping-add-u32-requires-2 : tie.Need-wrapping-add-u32-requires-2
 wrapping-add-u32-requires-2 c κs = search needs
 
--- src/bulk.rt:16:1
 returns : tie.Need-returns
 returns c = simp ((c .before .wrapping-add-u32 .ensures), (c .wrapping-add-u322 .ensures))
 

@@ -7,11 +7,9 @@ use Rattle.machine.proofs.bulk.headed.Reads as reads
 use Rattle.machine.proofs.bulk.headed.Lts as lts
 use Rattle.machine.proofs.bulk.counting.Reads as counting-reads
 
--- src/bulk.rt:97:9
 counting-requires : tie.Need-counting-requires
 counting-requires c κs = search needs
 
--- src/bulk.rt:93:1
 returns : tie.Need-returns
 returns c = simp ((c .counting .ensures))
 

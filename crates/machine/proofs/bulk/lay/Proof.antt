@@ -13,63 +13,48 @@ use Rattle.machine.proofs.bulk.lay.Lts as lts
 use Rattle.cells.proofs.copy.Reads as copy-reads
 use Rattle.cells.proofs.differ.Reads as differ-reads
 
--- src/bulk.rt:31:13
 add-e : tie.Need-add-e
 add-e c = search needs
 
--- src/bulk.rt:33:23
 sub-differ : tie.Need-sub-differ
 sub-differ c = search needs
 
--- src/bulk.rt:33:23
 part-differ-start : tie.Need-part-differ-start
 part-differ-start c = search needs
 
--- src/bulk.rt:33:23
 part-differ-end : tie.Need-part-differ-end
 part-differ-end c = search needs
 
--- src/bulk.rt:33:16
 differ-requires : tie.Need-differ-requires
 differ-requires c κs = search needs
 
--- src/bulk.rt:33:16
 cast-result : tie.Need-cast-result
 cast-result c = let e : c .differ .result ≤ length (c .before .before .before .before .before .before .args .t .now) = rw (c .differ .ensures) (differs-le _ _) in search needs
 
--- src/bulk.rt:33:9
 same-length : tie.Need-same-length
 same-length c = search needs
 
--- src/bulk.rt:33:9
 returns : tie.Need-returns
 returns c = lay-check (c .before .before .before .before .before .before .args .check) ((c .before .before .before .before .before .before .args .mem) .now) ((c .before .before .before .before .before .before .args .t) .now) (c .before .before .before .before .before .before .args .at) (search needs) (c .differ .result) (c .before .before .before .if1 .taken) (c .differ .ensures)
 
--- src/bulk.rt:36:14
 sub-copy : tie.Need-sub-copy
 sub-copy c = search needs
 
--- src/bulk.rt:36:14
 part-copy-start : tie.Need-part-copy-start
 part-copy-start c = search needs
 
--- src/bulk.rt:36:14
 part-copy-end : tie.Need-part-copy-end
 part-copy-end c = search needs
 
--- src/bulk.rt:36:9
 copy-requires : tie.Need-copy-requires
 copy-requires c κs = search needs
 
--- src/bulk.rt:26:1
 same-length-2 : tie.Need-same-length-2
 same-length-2 c = search needs
 
--- src/bulk.rt:26:1
 returns-2 : tie.Need-returns-2
 returns-2 c = lay-write (c .before .before .before .before .before .before .before .before .args .check) ((c .before .before .before .before .before .before .before .before .args .mem) .now) ((c .before .before .before .before .before .before .before .before .args .t) .now) (c .before .before .before .before .before .before .before .before .args .at) (search needs) (c .before .before .copy .last .0) (c .before .before .before .before .if2 .taken) (c .before .before .copy .ensures)
 
--- src/bulk.rt:26:1
 returns-3 : tie.Need-returns-3
 unfolding missesOf laidOf
 returns-3 c = (search tests, search tests)

@@ -9,123 +9,97 @@ use Rattle.machine.proofs.one_byte.advance.Lts as lts
 use Rattle.machine.proofs.one_byte.passed.Reads as passed-reads
 use Rattle.std.proofs.num.wrapping_add_u8.Reads as wrapping-add-u8-reads
 
--- src/one_byte.rt:194:26
 sub-q : tie.Need-sub-q
 sub-q c = search needs
 
--- src/one_byte.rt:202:23
 mul-q : tie.Need-mul-q
 mul-q c = search needs
 
--- src/one_byte.rt:206:23
 mul-q-2 : tie.Need-mul-q-2
 mul-q-2 c = search needs
 
--- src/one_byte.rt:206:23
 add-q : tie.Need-add-q
 add-q c = search needs
 
--- src/one_byte.rt:210:21
 mul-q-3 : tie.Need-mul-q-3
 mul-q-3 c = search needs
 
--- src/one_byte.rt:214:21
 mul-q-4 : tie.Need-mul-q-4
 mul-q-4 c = search needs
 
--- src/one_byte.rt:214:21
 add-q-2 : tie.Need-add-q-2
 add-q-2 c = search needs
 
--- src/one_byte.rt:219:13
 passed-requires : tie.Need-passed-requires
 passed-requires c κs = search needs
 
--- src/one_byte.rt:219:13
 returns : tie.Need-returns
 unfolding advanceOf
 returns c = (c .passed .ensures) ∙ simp ((c .before .match .keys13))
 
--- src/one_byte.rt:222:13
 wrapping-add-u8-requires : tie.Need-wrapping-add-u8-requires
 wrapping-add-u8-requires c κs = search needs
 
--- src/one_byte.rt:161:1
 returns-2 : tie.Need-returns-2
 unfolding advanceOf
 returns-2 c = simp ((c .before .before .match .keys1)) (search tests)
 
--- src/one_byte.rt:161:1
 returns-3 : tie.Need-returns-3
 unfolding advanceOf
 returns-3 c = simp ((c .before .before .match .keys1)) (search tests)
 
--- src/one_byte.rt:161:1
 returns-4 : tie.Need-returns-4
 unfolding advanceOf
 returns-4 c = simp ((c .match .keys2))
 
--- src/one_byte.rt:161:1
 returns-5 : tie.Need-returns-5
 unfolding advanceOf
 returns-5 c = simp ((c .match .keys3))
 
--- src/one_byte.rt:161:1
 returns-6 : tie.Need-returns-6
 unfolding advanceOf
 returns-6 c = simp ((c .match .keys4))
 
--- src/one_byte.rt:161:1
 returns-7 : tie.Need-returns-7
 unfolding advanceOf
 returns-7 c = simp ((c .match .keys5))
 
--- src/one_byte.rt:161:1
 returns-8 : tie.Need-returns-8
 unfolding advanceOf
 returns-8 c = simp ((c .match .keys6))
 
--- src/one_byte.rt:161:1
 returns-9 : tie.Need-returns-9
 unfolding advanceOf
 returns-9 c = simp ((c .before .match .keys7)) (search tests)
 
--- src/one_byte.rt:161:1
 returns-10 : tie.Need-returns-10
 unfolding advanceOf
 returns-10 c = simp ((c .before .match .keys7)) (search tests)
 
--- src/one_byte.rt:161:1
 returns-11 : tie.Need-returns-11
 unfolding advanceOf
 returns-11 c = simp ((c .match .keys8))
 
--- src/one_byte.rt:161:1
 returns-12 : tie.Need-returns-12
 unfolding advanceOf
 returns-12 c = simp ((c .match .keys9))
 
--- src/one_byte.rt:161:1
 returns-13 : tie.Need-returns-13
 unfolding advanceOf
 returns-13 c = simp ((c .before .match .keys10))
 
--- src/one_byte.rt:161:1
 returns-14 : tie.Need-returns-14
 unfolding advanceOf
 returns-14 c = simp ((c .match .keys11))
 
--- src/one_byte.rt:161:1
 returns-15 : tie.Need-returns-15
 unfolding advanceOf
 returns-15 c = simp ((c .before .match .keys12))
 
--- src/one_byte.rt:161:1
 returns-16 : tie.Need-returns-16
 unfolding advanceOf
 returns-16 c = simp ((c .before .match .keys14), (c .wrapping-add-u8 .ensures))
 
--- src/one_byte.rt:161:1
 returns-17 : tie.Need-returns-17
 unfolding advanceOf
 returns-17 c = search tests

@@ -5,19 +5,15 @@ use Rattle.machine.proofs.one_byte.begun.Tie as tie
 use Rattle.machine.proofs.one_byte.begun.Reads as reads
 use Rattle.machine.proofs.one_byte.begun.Lts as lts
 
--- src/one_byte.rt:20:9
 returns : tie.Need-returns
 returns c = search tests
 
--- src/one_byte.rt:24:13
 returns-2 : tie.Need-returns-2
 returns-2 c = search tests
 
--- src/one_byte.rt:26:9
 returns-3 : tie.Need-returns-3
 returns-3 c = search tests
 
--- src/one_byte.rt:16:1
 returns-4 : tie.Need-returns-4
 returns-4 c = search tests
 

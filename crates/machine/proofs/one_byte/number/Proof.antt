@@ -13,55 +13,42 @@ use Rattle.machine.proofs.one_byte.number_at_preamble.Reads as number-a
 use Rattle.machine.proofs.one_byte.number_at_second.Reads as number-at-second-reads
 use Rattle.machine.proofs.one_byte.number_at_start.Reads as number-at-start-reads
 
--- src/one_byte.rt:126:24
 number-at-preamble-requires : tie.Need-number-at-preamble-requires
 number-at-preamble-requires c κs = search needs
 
--- src/one_byte.rt:127:22
 number-at-second-requires : tie.Need-number-at-second-requires
 number-at-second-requires c κs = search needs
 
--- src/one_byte.rt:128:23
 number-at-control-requires : tie.Need-number-at-control-requires
 number-at-control-requires c κs = search needs
 
--- src/one_byte.rt:129:25
 number-at-start-requires : tie.Need-number-at-start-requires
 number-at-start-requires c κs = search needs
 
--- src/one_byte.rt:130:23
 number-at-end-requires : tie.Need-number-at-end-requires
 number-at-end-requires c κs = search needs
 
--- src/one_byte.rt:131:21
 number-at-check-requires : tie.Need-number-at-check-requires
 number-at-check-requires c κs = search needs
 
--- src/one_byte.rt:121:1
 returns : tie.Need-returns
 returns c = search needs
 
--- src/one_byte.rt:121:1
 returns-2 : tie.Need-returns-2
 returns-2 c = search needs
 
--- src/one_byte.rt:121:1
 returns-3 : tie.Need-returns-3
 returns-3 c = search needs
 
--- src/one_byte.rt:121:1
 returns-4 : tie.Need-returns-4
 returns-4 c = search needs
 
--- src/one_byte.rt:121:1
 returns-5 : tie.Need-returns-5
 returns-5 c = search needs
 
--- src/one_byte.rt:121:1
 returns-6 : tie.Need-returns-6
 returns-6 c = search needs
 
--- src/one_byte.rt:121:1
 returns-7 : tie.Need-returns-7
 unfolding numberOf
 returns-7 c = search tests

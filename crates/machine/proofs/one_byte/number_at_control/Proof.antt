@@ -6,17 +6,14 @@ use Rattle.machine.proofs.one_byte.number_at_control.Tie as tie
 use Rattle.machine.proofs.one_byte.number_at_control.Reads as reads
 use Rattle.machine.proofs.one_byte.number_at_control.Lts as lts
 
--- src/one_byte.rt:62:13
 returns : tie.Need-returns
 unfolding numberOf
 returns c = simp ((c .before .before .before .pre)) (search tests)
 
--- src/one_byte.rt:64:9
 returns-2 : tie.Need-returns-2
 unfolding numberOf
 returns-2 c = simp ((c .before .before .before .pre)) (search tests)
 
--- src/one_byte.rt:56:1
 returns-3 : tie.Need-returns-3
 unfolding numberOf
 returns-3 c = simp ((c .before .before .pre)) (search tests)

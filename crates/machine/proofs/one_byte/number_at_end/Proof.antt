@@ -9,33 +9,26 @@ use Rattle.machine.proofs.one_byte.number_at_end.Lts as lts
 use Rattle.chain.proofs.eight.at8.Reads as at8-reads
 use Rattle.chain.proofs.kinds.size_of.Reads as size-of-reads
 
--- src/one_byte.rt:86:24
 at8-requires : tie.Need-at8-requires
 at8-requires c κs = search needs
 
--- src/one_byte.rt:86:9
 size-of-requires : tie.Need-size-of-requires
 size-of-requires c κs = search needs
 
--- src/one_byte.rt:87:15
 mul-end : tie.Need-mul-end
 mul-end c = search needs
 
--- src/one_byte.rt:87:15
 add-end : tie.Need-add-end
 add-end c = search needs
 
--- src/one_byte.rt:89:9
 returns : tie.Need-returns
 unfolding numberOf
 returns c = simp ((c .before .before .before .before .before .before .pre), ← (c .before .before .before .before .at8 .ensures), ← (c .before .before .before .size-of .ensures)) (search tests)
 
--- src/one_byte.rt:92:9
 returns-2 : tie.Need-returns-2
 unfolding numberOf
 returns-2 c = simp ((c .before .before .before .before .before .before .before .pre), ← (c .before .before .before .before .before .at8 .ensures), ← (c .before .before .before .before .size-of .ensures)) (search tests)
 
--- src/one_byte.rt:81:1
 returns-3 : tie.Need-returns-3
 unfolding numberOf
 returns-3 c = simp ((c .before .before .before .before .before .before .before .pre), ← (c .before .before .before .before .before .at8 .ensures), ← (c .before .before .before .before .size-of .ensures)) (search tests)

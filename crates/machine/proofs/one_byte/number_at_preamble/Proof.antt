@@ -9,25 +9,20 @@ use Rattle.machine.proofs.one_byte.number_at_preamble.Lts as lts
 use Rattle.chain.proofs.eight.at8.Reads as at8-reads
 use Rattle.machine.proofs.one_byte.begun.Reads as begun-reads
 
--- src/one_byte.rt:36:9
 returns : tie.Need-returns
 unfolding numberOf
 returns c = simp ((c .before .pre)) (search tests)
 
--- src/one_byte.rt:39:9
 returns-2 : tie.Need-returns-2
 unfolding numberOf
 returns-2 c = simp ((c .before .before .before .pre)) (search tests)
 
--- src/one_byte.rt:42:26
 at8-requires : tie.Need-at8-requires
 at8-requires c κs = search needs
 
--- src/one_byte.rt:42:5
 begun-requires : tie.Need-begun-requires
 begun-requires c κs = search needs
 
--- src/one_byte.rt:31:1
 returns-3 : tie.Need-returns-3
 unfolding numberOf
 returns-3 c = (c .begun .ensures) ∙ simp ((c .before .before .before .before .before .before .pre), ← (c .before .at8 .ensures)) (search tests)

@@ -9,28 +9,22 @@ use Rattle.machine.proofs.one_byte.number_at_start.Lts as lts
 use Rattle.chain.proofs.eight.at8.Reads as at8-reads
 use Rattle.chain.proofs.kinds.size_of.Reads as size-of-reads
 
--- src/one_byte.rt:74:24
 at8-requires : tie.Need-at8-requires
 at8-requires c κs = search needs
 
--- src/one_byte.rt:74:9
 size-of-requires : tie.Need-size-of-requires
 size-of-requires c κs = search needs
 
--- src/one_byte.rt:75:8
 mul-if1 : tie.Need-mul-if1
 mul-if1 c = search needs
 
--- src/one_byte.rt:75:8
 add-if1 : tie.Need-add-if1
 add-if1 c = search needs
 
--- src/one_byte.rt:76:9
 returns : tie.Need-returns
 unfolding numberOf
 returns c = simp ((c .before .before .before .before .before .pre), ← (c .before .before .before .at8 .ensures), ← (c .before .before .size-of .ensures)) (search tests)
 
--- src/one_byte.rt:69:1
 returns-2 : tie.Need-returns-2
 unfolding numberOf
 returns-2 c = simp ((c .before .before .before .before .before .pre), ← (c .before .before .before .at8 .ensures), ← (c .before .before .size-of .ensures)) (search tests)

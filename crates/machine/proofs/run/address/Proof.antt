@@ -10,19 +10,15 @@ use Rattle.machine.proofs.run.address.Reads as reads
 use Rattle.machine.proofs.run.address.Lts as lts
 use Rattle.chain.proofs.kinds.base_of.Reads as base-of-reads
 
--- src/run.rt:34:5
 base-of-requires : tie.Need-base-of-requires
 base-of-requires c κs = search needs
 
--- src/run.rt:34:29
 cast-result : tie.Need-cast-result
 cast-result c = search needs
 
--- src/run.rt:34:5
 add-result : tie.Need-add-result
 add-result c = search needs
 
--- src/run.rt:28:1
 returns : tie.Need-returns
 unfolding addressOf
 returns c = (simp ((c .before .base-of .ensures .0)), omega arith)

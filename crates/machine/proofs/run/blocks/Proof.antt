@@ -7,11 +7,11 @@ use lib.ListN.{length, take, drop, length-drop}
 use lib.Seq.{length-take-le}
 use Rattle.chain.specs.declared.Chain.{Chain}
 use Rattle.chain.specs.Paper.{more}
-use Rattle.chain.specs.Kinds.{sizeOf, sizeAt, baseOf}
+use Rattle.chain.specs.Kinds.{sizeOf, baseOf}
 use Rattle.machine.specs.Byte.{sizeHere}
 use Rattle.machine.specs.Block.{fitsOf}
-use Rattle.machine.specs.Run.{Run, run, runOf, addressOf}
-use Rattle.machine.proofs.Feed.{run-at, run-end, run-over, run-part}
+use Rattle.machine.specs.Run.{run, runOf, addressOf}
+use Rattle.machine.proofs.Feed.{run-part}
 use Rattle.machine.proofs.Header.{header-part}
 use Rattle.machine.proofs.run.blocks.Statement.{statement}
 use Rattle.machine.proofs.run.blocks.Tie as tie

@@ -9,15 +9,12 @@ use Rattle.machine.proofs.run.cell.Tie as tie
 use Rattle.machine.proofs.run.cell.Reads as reads
 use Rattle.machine.proofs.run.cell.Lts as lts
 
--- src/run.rt:54:25
 shared-slice-read-result : tie.Need-shared-slice-read-result
 shared-slice-read-result c = search needs
 
--- src/run.rt:51:1
 returns : tie.Need-returns
 returns c = search needs
 
--- src/run.rt:51:1
 returns-2 : tie.Need-returns-2
 returns-2 c = sym (read-past ((c .before .args .mem) .now) (c .before .args .at) (search needs))
 

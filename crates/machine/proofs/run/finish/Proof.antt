@@ -8,16 +8,13 @@ use Rattle.machine.proofs.run.finish.Reads as reads
 use Rattle.machine.proofs.run.finish.Lts as lts
 use Rattle.chain.proofs.closed_place.Reads as closed-place-reads
 
--- src/run.rt:173:9
 returns : tie.Need-returns
 unfolding fedOf
 returns c = search tests
 
--- src/run.rt:175:9
 closed-place-requires : tie.Need-closed-place-requires
 closed-place-requires c κs = search needs
 
--- src/run.rt:163:1
 returns-2 : tie.Need-returns-2
 unfolding fedOf
 returns-2 c = simp ((c .closed-place .ensures)) (search tests)

@@ -12,29 +12,23 @@ use Rattle.machine.proofs.run.address.Reads as address-reads
 use Rattle.machine.proofs.run.cell.Reads as cell-reads
 use Rattle.machine.proofs.run.unlike.Reads as unlike-reads
 
--- src/run.rt:43:37
 address-requires : tie.Need-address-requires
 address-requires c κs = search needs
 
--- src/run.rt:43:27
 cell-requires : tie.Need-cell-requires
 cell-requires c κs = search needs
 
--- src/run.rt:43:13
 unlike-requires : tie.Need-unlike-requires
 unlike-requires c κs = search needs
 
--- src/run.rt:43:13
 returns : tie.Need-returns
 unfolding missedOf
 returns c = (c .unlike .ensures) ∙ simp ((c .before .cell .ensures), (c .before .before .address .ensures .0)) (search tests)
 
--- src/run.rt:45:9
 returns-2 : tie.Need-returns-2
 unfolding missedOf
 returns-2 c = search tests
 
--- src/run.rt:38:1
 returns-3 : tie.Need-returns-3
 unfolding missedOf
 returns-3 c = search tests

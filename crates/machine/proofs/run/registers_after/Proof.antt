@@ -10,21 +10,17 @@ use Rattle.machine.proofs.run.registers_after.Reads as reads
 use Rattle.machine.proofs.run.registers_after.Lts as lts
 use Rattle.chain.proofs.eight.with8.Reads as with8-reads
 
--- src/run.rt:71:13
 with8-requires : tie.Need-with8-requires
 with8-requires c κs = search needs
 
--- src/run.rt:71:13
 returns : tie.Need-returns
 unfolding registersOf
 returns c = (c .with8 .ensures) ∙ search tests
 
--- src/run.rt:73:9
 returns-2 : tie.Need-returns-2
 unfolding registersOf
 returns-2 c = search tests
 
--- src/run.rt:64:1
 returns-3 : tie.Need-returns-3
 unfolding registersOf
 returns-3 c = search tests

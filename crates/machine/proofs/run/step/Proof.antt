@@ -13,44 +13,34 @@ use Rattle.machine.proofs.run.missed.Reads as missed-reads
 use Rattle.machine.proofs.run.registers_after.Reads as registers-after-reads
 use Rattle.machine.proofs.run.store.Reads as store-reads
 
--- src/run.rt:97:9
 number-requires : tie.Need-number-requires
 number-requires c κs = search needs
 
--- src/run.rt:100:13
 counting-requires : tie.Need-counting-requires
 counting-requires c κs = search needs
 
--- src/run.rt:104:9
 returns : tie.Need-returns
 unfolding stepOf
 returns c = simp (← (c .before .before .before .number .ensures), (c .counting .ensures)) (search tests)
 
--- src/run.rt:109:9
 missed-requires : tie.Need-missed-requires
 missed-requires c κs = search needs
 
--- src/run.rt:110:21
 counting-requires-2 : tie.Need-counting-requires-2
 counting-requires-2 c κs = search needs
 
--- src/run.rt:110:9
 advance-requires : tie.Need-advance-requires
 advance-requires c κs = search needs
 
--- src/run.rt:111:9
 registers-after-requires : tie.Need-registers-after-requires
 registers-after-requires c κs = search needs
 
--- src/run.rt:112:5
 store-requires : tie.Need-store-requires
 store-requires c κs = search needs
 
--- src/run.rt:94:1
 same-length : tie.Need-same-length
 same-length c = search needs
 
--- src/run.rt:94:1
 returns-2 : tie.Need-returns-2
 unfolding stepOf
 returns-2 c = simp (← (c .before .before .before .before .before .before .before .before .before .before .before .before .number .ensures), (c .before .before .before .before .before .before .before .before .before .before .if1 .left), (c .before .before .before .before .before .before .advance .ensures), (c .before .before .before .before .before .before .before .counting2 .ensures), (c .before .before .before .before .before .before .before .before .missed .ensures), (c .before .before .before .before .before .registers-after .ensures), (c .before .before .before .store .ensures))

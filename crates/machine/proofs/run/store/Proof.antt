@@ -10,34 +10,27 @@ use Rattle.machine.proofs.run.store.Reads as reads
 use Rattle.machine.proofs.run.store.Lts as lts
 use Rattle.machine.proofs.run.address.Reads as address-reads
 
--- src/run.rt:85:17
 address-requires : tie.Need-address-requires
 address-requires c κs = search needs
 
--- src/run.rt:87:17
 slice-write-mem : tie.Need-slice-write-mem
 slice-write-mem c = search needs
 
--- src/run.rt:79:1
 same-length : tie.Need-same-length
 same-length c = search needs
 
--- src/run.rt:79:1
 returns : tie.Need-returns
 unfolding memoryOf
 returns c = simp ((c .before .address .ensures .0)) (search tests)
 
--- src/run.rt:79:1
 returns-2 : tie.Need-returns-2
 unfolding memoryOf
 returns-2 c = search (tests, store-past ((c .before .before .before .before .before .before .before .args .mem) .now) (addressOf (c .before .before .before .before .before .before .before .args .c)) (c .before .before .before .before .before .before .before .args .b) (rw (c .before .address .ensures .0) at (c .if3 .left)))
 
--- src/run.rt:79:1
 returns-3 : tie.Need-returns-3
 unfolding memoryOf
 returns-3 c = search tests
 
--- src/run.rt:79:1
 returns-4 : tie.Need-returns-4
 unfolding memoryOf
 returns-4 c = search tests

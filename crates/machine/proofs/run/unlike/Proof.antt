@@ -6,11 +6,9 @@ use Rattle.machine.proofs.run.unlike.Tie as tie
 use Rattle.machine.proofs.run.unlike.Reads as reads
 use Rattle.machine.proofs.run.unlike.Lts as lts
 
--- src/run.rt:57:1
 returns : tie.Need-returns
 returns c = simp (eq-eqb _ _ (c .if1 .taken))
 
--- src/run.rt:57:1
 returns-2 : tie.Need-returns-2
 returns-2 c = simp (ne-eqb _ _ (c .if1 .left))
 
