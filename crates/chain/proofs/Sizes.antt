@@ -1,6 +1,5 @@
 -- Facts shared by the kinds, once over the table: what holds of every entry, and of 0, holds of the size of any kind. Assumes nothing.
 use Prim.Native.Nat.{ℕ, _≤_}
-use mathlib.Core.Bool.{Bool, true, false}
 use mathlib.Core.Path.{_≡_, refl}
 use mathlib.Core.List.{List, [], _∷_}
 use native.Mathlib.Omega.{arith}

@@ -1,25 +1,24 @@
 -- A stream that is accepted with its last byte: said without memory, and the same as what a run over any memory answers. Assumes nothing.
 use Prim.Native.Nat.{ℕ, zero, suc, _+_, _%_, _^_, _<_, _≤_}
-use mathlib.Core.Bool.{Bool, true, false, _&&_}
+use mathlib.Core.Bool.{true, _&&_}
 use mathlib.Core.Path.{_≡_, refl, ap, sym, subst, _∙_}
 use mathlib.Core.List.{List, [], _∷_}
 use native.Mathlib.Nat.{not-suc-le-zero, le-of-suc-le-suc, mod-le}
 use native.Mathlib.Omega.{arith}
 use lib.Dec.{eqb, lit<}
-use lib.ListN.{length, set, take}
-use borrow.Author.Tests.{eqb-true, eqb-false, eq-eqb, ne-eqb}
+use lib.ListN.{length, take}
+use borrow.Author.Tests.{eqb-true}
 use Rattle.chain.specs.declared.Chain.{Chain}
 use Rattle.chain.specs.Paper.{at·data, done, more}
-use Rattle.chain.specs.Rules.{pick}
 use Rattle.chain.proofs.ByCases.{by-test}
 use Rattle.machine.specs.Byte.{awaits, numberOf}
-use Rattle.machine.specs.Run.{writes, addressOf, memoryOf, Run, run, stepOf, onByte, runOf}
+use Rattle.machine.specs.Run.{writes, memoryOf, Run, run, stepOf, runOf}
 use Rattle.machine.proofs.Feed.{run-over}
 use Rattle.machine.proofs.Runs.{step-number}
-use Rattle.machine.proofs.Blind.{Alike, blind}
-use Rattle.machine.proofs.Taken.{looked, first-on, first-off, looked-on, looked-off, run-taken}
-use Rattle.demands.specs.Grammar.{Sent, bytesOf}
-use Rattle.demands.proofs.Along.{aim, sentOf}
+use Rattle.machine.proofs.Blind.{blind}
+use Rattle.machine.proofs.Taken.{looked, first-on, looked-on, looked-off, run-taken}
+use Rattle.demands.specs.Grammar.{bytesOf}
+use Rattle.demands.proofs.Along.{sentOf}
 
 -- every byte but the last goes on, and the last is accepted
 pub data Accepted : Chain → List ℕ → Type 0 where

@@ -1,24 +1,24 @@
 -- The machine's own walk: each byte of a run with what the machine makes of it, and what is stored by it. Assumes nothing.
 use Prim.Native.Nat.{ℕ, zero, suc}
-use mathlib.Core.Bool.{Bool, true, false, _&&_, and-false}
+use mathlib.Core.Bool.{true, false, and-false}
 use mathlib.Core.Path.{_≡_, refl, ap, sym, _∙_}
 use mathlib.Core.List.{List, [], _∷_}
 use lib.Dec.{eqb}
-use lib.ListN.{length, set, take, length-set}
+use lib.ListN.{set, take}
 use borrow.Author.Tests.{eqb-true, eqb-false}
 use Rattle.chain.specs.declared.Chain.{Chain}
-use Rattle.chain.specs.Paper.{at·control, at·data, writing, checking, done, more}
+use Rattle.chain.specs.Paper.{at·control, at·data, writing, checking, more}
 use Rattle.chain.specs.Rules.{pick}
 use Rattle.chain.proofs.ByCases.{by-test}
 use Rattle.machine.specs.Byte.{awaits, checks, numberOf}
-use Rattle.machine.specs.Run.{writes, addressOf, memoryOf, registersOf, Run, run, stepOf, onByte, runOf}
+use Rattle.machine.specs.Run.{writes, addressOf, memoryOf, registersOf, Run, run, stepOf, runOf}
 use Rattle.machine.proofs.Block.{data-number}
 use Rattle.machine.proofs.Feed.{run-over}
 use Rattle.machine.proofs.Kept.{step-check}
 use Rattle.machine.proofs.Runs.{step-number}
 use Rattle.machine.proofs.Stores.{write-blind}
 use lib.Seq.{take-nil}
-use Rattle.demands.specs.Grammar.{Target, framing, register, cell, Sent, Store, memory, registers, Slot, nowhere, index, slot, bytesOf}
+use Rattle.demands.specs.Grammar.{Target, framing, register, cell, Sent, Store, memory, registers, Slot, nowhere, index, slot}
 
 -- where the machine puts the byte that it awaits
 abbrev pub aim : Chain → Target

@@ -5,14 +5,13 @@ use mathlib.Core.Path.{_≡_, refl}
 use mathlib.Core.List.{List, [], _∷_}
 use native.Mathlib.Omega.{arith}
 use lib.Dec.{lit<}
-use lib.ListN.{length, take}
-use Rattle.chain.specs.Paper.{done, writing}
+use lib.ListN.{take}
 use Rattle.chain.specs.Kinds.{sizeOf, baseOf, knownOf}
 use Rattle.chain.specs.State.{badChain, unusedZero, wellFormed, illFormed, stateNumber, openNumber}
 use Rattle.machine.specs.Byte.{numberOf, passedOf, advanceOf}
 use Rattle.machine.specs.Run.{addressOf, memoryOf, registersOf, missedOf, stepOf, runOf}
 use Rattle.machine.specs.Calls.{startNumber, startOf, fedOf, sliceOf, sliceMemory}
-use Rattle.demands.specs.Grammar.{Window, Section, bytesOf, streamSent, Bytes}
+use Rattle.demands.specs.Grammar.{Section, Bytes}
 use Rattle.demands.specs.Demand3.{Reading, Whole, load, Demand3}
 use Rattle.demands.specs.Ours.{ours}
 use Rattle.demands.specs.Wrong.{eager}

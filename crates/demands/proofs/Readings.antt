@@ -1,11 +1,11 @@
 -- Wrong readings of document 01, each shut out by a demand. Assumes nothing.
 use Prim.Native.Nat.{ℕ, _<_, _≤_}
-use mathlib.Core.Path.{_≡_, refl, ap, sym, _∙_}
+use mathlib.Core.Path.{_≡_, refl, ap, sym}
 use mathlib.Core.List.{List, [], _∷_}
 use native.Mathlib.Omega.{arith}
 use lib.Dec.{lit<}
 use lib.ListN.{length, getD, replicate, take}
-use Rattle.chain.specs.Paper.{writing, checking, done, more}
+use Rattle.chain.specs.Paper.{writing, checking}
 use Rattle.chain.specs.Kinds.{sizeOf, baseOf, knownOf}
 use Rattle.chain.specs.State.{badChain, unusedZero, wellFormed, illFormed, stateNumber, openNumber}
 use Rattle.machine.specs.Byte.{numberOf, passedOf, advanceOf}
@@ -17,7 +17,7 @@ use Rattle.lister.specs.Windows.{windowStop, readWindowOf, windowsStop, windows
 use Rattle.lister.specs.Listing.{preambleAt, headStop, checkStop, streamStop, listStop, listedOf, listingOf}
 use Rattle.closing.specs.Closing.{closingBytes}
 use Rattle.closing.specs.Calls.{writtenNumber, closingOf, closingOutput}
-use Rattle.demands.specs.Grammar.{Window, Section, bytesOf, streamSent, Bytes}
+use Rattle.demands.specs.Grammar.{Window, Section, Bytes}
 use Rattle.demands.specs.Demand2.{Fitting, Demand2a}
 use Rattle.demands.specs.Demand3.{Reading, Whole, Demand3}
 use Rattle.demands.specs.Files.{starts, offsets, Demand2b}

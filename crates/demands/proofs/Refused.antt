@@ -2,11 +2,11 @@
 use Prim.Native.Nat.{ℕ, suc, _+_, _%_, _^_, _<_}
 use mathlib.Core.Bool.{Bool}
 use mathlib.Core.Logic.{_↔_, _≢_}
-use mathlib.Core.Path.{_≡_, refl, sym, ap, _∙_}
+use mathlib.Core.Path.{_≡_, sym, ap, _∙_}
 use mathlib.Core.List.{List, [], _∷_}
 use native.Mathlib.Nat.{add-zero}
 use native.Mathlib.Omega.{arith}
-use borrow.Author.Tests.{eqb-true, eqb-false, eq-eqb, ne-eqb}
+use borrow.Author.Tests.{eq-eqb, ne-eqb}
 use lib.Dec.{eqb}
 use lib.ListN.{length, getD, take, drop, take-append-drop}
 use lib.Seq.{take-suc}
@@ -16,15 +16,11 @@ use Rattle.chain.specs.Rules.{pick}
 use Rattle.chain.specs.Set.{with·place, closedPlace}
 use Rattle.chain.specs.State.{openRules, openNumber}
 use Rattle.chain.specs.Calls.{noChain, chainNumber, newOf, resetOf, resetMemory}
-use Rattle.chain.proofs.ByCases.{by-test}
 use Rattle.machine.specs.declared.Fed.{Fed}
 use Rattle.machine.specs.Byte.{numberOf}
-use Rattle.machine.specs.Run.{missedOf, counted, Run, run, ended, stepOf, runOf}
+use Rattle.machine.specs.Run.{Run, run, ended, stepOf, runOf}
 use Rattle.machine.specs.Calls.{startNumber, startOf, answered, fedOf, sliceOf, sliceMemory}
 use Rattle.machine.proofs.Feed.{run-append, run-over}
-use Rattle.machine.proofs.Frame.{advance-frame}
-use Rattle.machine.proofs.Runs.{step-number}
-use Rattle.machine.proofs.Taken.{first-on, first-off}
 use Rattle.saved.specs.Calls.{saveNumber, saveOf, saveOutput, pickUpNumber, pickUpOf}
 use Rattle.closing.specs.Calls.{writtenNumber, closingOf, closingOutput}
 use Rattle.hunt.specs.Hunt.{huntNumber, huntOf, huntOut}

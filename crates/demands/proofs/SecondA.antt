@@ -1,7 +1,7 @@
 -- Clause (a) of the second demand holds of our loader: a stream that fits loads or is checked as it is meant, however it is cut into
 -- slices. Assumes nothing.
-use Prim.Native.Nat.{ℕ, suc, _+_, _<_, _≤_, _^_}
-use mathlib.Core.Bool.{Bool, true, false}
+use Prim.Native.Nat.{ℕ, _+_, _<_, _≤_, _^_}
+use mathlib.Core.Bool.{true, false}
 use mathlib.Core.Path.{_≡_, refl, ap, sym, subst, _∙_}
 use mathlib.Core.List.{List, [], _∷_, _++_, append-assoc}
 use native.Mathlib.Omega.{arith}
@@ -17,7 +17,7 @@ use Rattle.chain.proofs.ByCases.{by-test}
 use Rattle.chain.specs.declared.Made.{Made}
 use Rattle.machine.specs.declared.Fed.{Fed}
 use Rattle.machine.specs.Run.{Run, run, runOf}
-use Rattle.machine.specs.Calls.{openedPlace, startOf, fedOf, sliceOf, sliceMemory}
+use Rattle.machine.specs.Calls.{openedPlace, fedOf, sliceOf, sliceMemory}
 use Rattle.machine.proofs.Feed.{run-append, run-over}
 use Rattle.machine.proofs.Keeps.{run-open}
 use Rattle.machine.proofs.Runs.{run-lasts}
@@ -25,8 +25,7 @@ use Rattle.machine.proofs.Slices.{slice-runs, fed-more, fed-number}
 use Rattle.machine.proofs.Append.{slice-more}
 use Rattle.demands.specs.Grammar.{Sent, Section, bytesOf, streamSent, Bytes}
 use Rattle.demands.specs.Loader.{AfterSlice, Idle, Mode}
-use Rattle.demands.specs.Demand2.{Fitting, Seen, slices, joined, Loads, Demand2a}
-use Rattle.demands.specs.Demand3.{Reading}
+use Rattle.demands.specs.Demand2.{Fitting, Seen, slices, joined, Demand2a}
 use Rattle.demands.specs.Ours.{ours}
 use Rattle.demands.proofs.Along.{sentOf, sent-take}
 use Rattle.demands.proofs.Accepted.{Accepted, accepted-done, accepted-open}

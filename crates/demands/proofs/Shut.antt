@@ -1,9 +1,9 @@
 -- Loaders that clause (a) of the second demand shuts out: a constant answer and refusing all, storing nothing, a made-up count.
 -- Assumes nothing.
 use Prim.Native.Nat.{ℕ, _<_}
-use mathlib.Core.Bool.{Bool, true, false}
+use mathlib.Core.Bool.{true}
 use mathlib.Core.Path.{_≡_, refl, ap, sym, _∙_}
-use mathlib.Core.List.{List, [], _∷_, _++_, append-nil}
+use mathlib.Core.List.{List, [], _∷_, append-nil}
 use native.Mathlib.Omega.{arith}
 use lib.Dec.{eqb}
 use lib.ListN.{length, take, getD}
@@ -14,7 +14,7 @@ use Rattle.chain.specs.Kinds.{baseOf}
 use Rattle.chain.proofs.ByCases.{by-test}
 use Rattle.demands.specs.Grammar.{Sent, Section, bytesOf, sectionsSent, streamSent}
 use Rattle.demands.specs.Loader.{Loader, Idle, Mode}
-use Rattle.demands.specs.Demand2.{unlikes, Fitting, Seen, Loads, Demand2a}
+use Rattle.demands.specs.Demand2.{unlikes, Fitting, Seen, Demand2a}
 use Rattle.demands.specs.Wrong.{constant, idle, taking, missing}
 use Rattle.demands.proofs.StreamA.{teaching, cells0, sectionA, idle-teaching, mode-one, fits-A}
 

@@ -1,17 +1,15 @@
 -- Document 01's stream A on the teaching array: a stream that fits, for a write and for a check. Assumes nothing.
-use Prim.Native.Nat.{ℕ, zero, suc, _<_, _≤_}
-use mathlib.Core.Bool.{true, false}
-use mathlib.Core.Path.{_≡_, refl}
+use Prim.Native.Nat.{ℕ, zero, suc, _<_}
+use mathlib.Core.Path.{refl}
 use mathlib.Core.List.{List, [], _∷_}
 use native.Mathlib.Omega.{arith}
-use lib.ListN.{length, replicate}
+use lib.ListN.{replicate}
 use lib.Dec.{lit<}
 use Rattle.chain.specs.declared.Chain.{Chain}
-use Rattle.chain.specs.Paper.{done}
 use Rattle.chain.specs.Kinds.{sizeOf, baseOf, knownOf}
 use Rattle.chain.specs.Set.{closedPlace}
 use Rattle.chain.specs.State.{badChain, unusedZero, wellFormed, illFormed, stateNumber}
-use Rattle.demands.specs.Grammar.{Window, Section, bytesOf, streamSent, Bytes}
+use Rattle.demands.specs.Grammar.{Window, Section, Bytes}
 use Rattle.demands.specs.Loader.{Idle, Mode}
 use Rattle.demands.specs.Demand2.{Fitting}
 

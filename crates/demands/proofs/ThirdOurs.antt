@@ -1,15 +1,13 @@
 -- The third demand of our loader: what it is proved from is filled in, and the bytes up to the stop are cut in any way. Assumes nothing.
-use Prim.Native.Nat.{ℕ, _+_, _≤_, _<_}
-use mathlib.Core.Path.{_≡_, refl, ap, sym, subst, _∙_}
+use Prim.Native.Nat.{ℕ, _+_, _≤_}
+use mathlib.Core.Path.{_≡_, ap, sym, subst, _∙_}
 use mathlib.Core.List.{List, _++_}
-use native.Mathlib.Omega.{arith}
 use lib.Dec.{eqb}
 use lib.ListN.{length, take, drop}
 use lib.Seq.{take-append-seam}
 use borrow.Author.Tests.{eq-eqb}
 use Rattle.chain.specs.declared.Chain.{Chain}
 use Rattle.chain.specs.Paper.{writing, done, more}
-use Rattle.chain.specs.Rules.{pick}
 use Rattle.chain.specs.declared.Made.{Made}
 use Rattle.chain.specs.Set.{with·place}
 use Rattle.machine.specs.declared.Fed.{Fed}
@@ -20,11 +18,11 @@ use Rattle.machine.proofs.Slices.{slice-runs, fed-number}
 use Rattle.machine.proofs.Keeps.{run-open}
 use Rattle.closing.specs.Closing.{closingBytes}
 use Rattle.closing.specs.Calls.{writtenNumber, closingOf, closingOutput}
-use Rattle.closing.proofs.Closes.{Closes, closes, room-enough}
+use Rattle.closing.proofs.Closes.{closes, room-enough}
 use Rattle.demands.specs.Grammar.{Bytes}
 use Rattle.demands.specs.Loader.{AfterSlice, Idle, Mode}
 use Rattle.demands.specs.Demand2.{slices, joined}
-use Rattle.demands.specs.Demand3.{Reading, meant, offered, load, Stopped, Demand3}
+use Rattle.demands.specs.Demand3.{meant, offered, load, Stopped, Demand3}
 use Rattle.demands.specs.Ours.{ours}
 use Rattle.demands.proofs.SecondA.{slices-join, open-front, bytes-front}
 use Rattle.demands.proofs.Opened.{opened-sound, start-done}

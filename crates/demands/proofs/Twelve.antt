@@ -1,5 +1,4 @@
 -- The twelve cases hold, by computation. Assumes nothing.
-use mathlib.Core.List.{List}
 use Rattle.chain.specs.Kinds.{sizeOf, baseOf, knownOf}
 use Rattle.chain.specs.State.{badChain, unusedZero, wellFormed, illFormed, stateNumber, openNumber}
 use Rattle.chain.specs.Calls.{firstOnly, chainNumber, newOf}

@@ -3,10 +3,10 @@ use Prim.Native.Nat.{ℕ, suc, _+_}
 use mathlib.Core.Bool.{Bool, true, false, _&&_}
 use mathlib.Core.List.{List, [], _∷_, _++_}
 use lib.Dec.{eqb}
-use lib.ListN.{length, take, drop, replicate}
+use lib.ListN.{length, take, replicate}
 use lib.Seq.{sets}
 use Rattle.chain.specs.declared.Chain.{Chain}
-use Rattle.chain.specs.Paper.{writing, done}
+use Rattle.chain.specs.Paper.{done}
 use Rattle.chain.specs.Kinds.{sizeOf}
 use Rattle.chain.specs.Calls.{newOf}
 use Rattle.hunt.specs.Hunt.{foundAt}

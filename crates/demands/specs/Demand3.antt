@@ -5,7 +5,7 @@ use mathlib.Core.Path.{_≡_}
 use mathlib.Core.List.{List, [], _∷_, _++_}
 use lib.ListN.{length, getD, take}
 use Rattle.chain.specs.declared.Chain.{Chain}
-use Rattle.chain.specs.Paper.{writing, done, more, B3, B4}
+use Rattle.chain.specs.Paper.{writing, done, more, B4}
 use Rattle.chain.specs.Kinds.{sizeAt}
 use Rattle.demands.specs.Grammar.{Sent, Section, memory, registers, lastTo, bytesOf, streamSent, SectionsFit, Bytes}
 use Rattle.demands.specs.Loader.{Loader, AfterSlice, AfterWrite, Idle, Mode}

@@ -1,9 +1,6 @@
 -- The loader that the contracts describe: each field is the definition that a call's promise cites. Assumes nothing.
-use Prim.Native.Nat.{ℕ}
-use mathlib.Core.List.{List}
 use lib.ListN.{length}
 use lib.Seq.{sets}
-use Rattle.chain.specs.Kinds.{sizeOf}
 use Rattle.machine.specs.Calls.{startOf, sliceOf, sliceMemory}
 use Rattle.closing.specs.Calls.{closingOf, closingOutput}
 use Rattle.writer.specs.Write.{writeOf, writeOutput}

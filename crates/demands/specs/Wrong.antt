@@ -1,6 +1,6 @@
 -- Loaders that the demands shut out: ours, with one call replaced. Assumes nothing.
 use Prim.Native.Nat.{ℕ, suc, _+_, _-_}
-use mathlib.Core.Bool.{Bool, _&&_}
+use mathlib.Core.Bool.{_&&_}
 use mathlib.Core.List.{List, [], _∷_}
 use lib.Dec.{eqb}
 use lib.ListN.{length, replicate}

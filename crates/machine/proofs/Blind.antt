@@ -2,17 +2,17 @@
 -- the count of mismatches alone. Assumes nothing.
 use Prim.Native.Nat.{ℕ, _+_, _-_, _%_, _^_}
 use mathlib.Core.Bool.{Bool, true, false}
-use mathlib.Core.Path.{_≡_, refl, ap, sym, subst, _∙_}
+use mathlib.Core.Path.{_≡_, refl, sym, subst}
 use mathlib.Core.List.{List, [], _∷_}
 use lib.Dec.{eqb, ltb, leb}
 use Rattle.chain.specs.declared.Chain.{Chain}
 use Rattle.chain.specs.declared.Place.{Place}
 use Rattle.chain.specs.Paper.{no-windows, at·null, at·check, more}
 use Rattle.chain.specs.Rules.{Row, _⇒_, rowOf, pick}
-use Rattle.chain.specs.Set.{with·awaited, with·left, with·next, with·mismatches, with·place}
+use Rattle.chain.specs.Set.{with·awaited, with·left, with·mismatches, with·place}
 use Rattle.chain.proofs.ByCases.{by-test}
-use Rattle.machine.specs.Byte.{noWindow, passedOf, advanceRows, advanceOf, numberOf}
-use Rattle.machine.specs.Run.{registersOf, missedOf, counted, ended, Run, run, wentOn, stepOf, onByte, runOf}
+use Rattle.machine.specs.Byte.{passedOf, advanceRows, advanceOf, numberOf}
+use Rattle.machine.specs.Run.{registersOf, missedOf, counted, Run, run, wentOn, stepOf, onByte, runOf}
 
 -- the same chain with j mismatches
 abbrev pub still : Chain → ℕ → Chain

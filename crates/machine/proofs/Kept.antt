@@ -1,14 +1,13 @@
 -- What a byte leaves as it was: a refused byte every cell and register, a check every cell, and a check every register. Assumes nothing.
 use Prim.Native.Nat.{ℕ}
-use mathlib.Core.Bool.{Bool, true, false, _&&_, and-false}
-use mathlib.Core.Path.{_≡_, refl, ap, sym, _∙_}
+use mathlib.Core.Bool.{false, and-false}
+use mathlib.Core.Path.{_≡_, refl, _∙_}
 use mathlib.Core.List.{List, [], _∷_}
 use lib.Dec.{eqb}
 use Rattle.chain.specs.declared.Chain.{Chain}
-use Rattle.chain.specs.declared.Place.{Place}
-use Rattle.chain.specs.Paper.{writing, checking, more}
+use Rattle.chain.specs.Paper.{checking, more}
 use Rattle.chain.proofs.ByCases.{by-test}
-use Rattle.machine.specs.Byte.{numberOf, advanceOf}
+use Rattle.machine.specs.Byte.{numberOf}
 use Rattle.machine.specs.Run.{writes, memoryOf, registersOf, missedOf, counted, loads, Run, stepOf, onByte, runOf}
 use Rattle.machine.proofs.Frame.{advance-frame}
 

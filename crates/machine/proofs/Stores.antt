@@ -1,6 +1,6 @@
 -- What a run stores: a list of cells and bytes, read off the chain and the bytes alone. Assumes nothing.
 use Prim.Native.Nat.{ℕ}
-use mathlib.Core.Bool.{Bool, true, false, _&&_, and-true, and-false}
+use mathlib.Core.Bool.{Bool, true, false, _&&_, and-false}
 use mathlib.Core.Path.{_≡_, refl, ap, sym, _∙_}
 use mathlib.Core.List.{List, [], _∷_, _++_}
 use lib.Dec.{eqb}
@@ -11,7 +11,7 @@ use Rattle.chain.specs.Paper.{at·data, writing, checking, more}
 use Rattle.chain.specs.Rules.{pick}
 use Rattle.chain.proofs.ByCases.{by-test}
 use Rattle.machine.specs.Byte.{awaits, checks, numberOf}
-use Rattle.machine.specs.Run.{writes, addressOf, memoryOf, missedOf, Run, run, wentOn, stepOf, onByte, runOf}
+use Rattle.machine.specs.Run.{writes, addressOf, memoryOf, missedOf, Run, run, stepOf, runOf}
 use Rattle.machine.proofs.Feed.{run-over}
 use Rattle.machine.proofs.Kept.{step-check, unwritten-run}
 use Rattle.machine.proofs.Runs.{step-number}

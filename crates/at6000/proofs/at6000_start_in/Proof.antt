@@ -1,7 +1,7 @@
 -- `at6000::at6000_start_in` meets its contract: a walk of its MIR, by hand. The borrow of the Chain is opened, the Chain is copied and passed to `machine::start` with the other parameters, of which the proof knows only that it meets its contract; the Chain of what it returns is stored in the cell, and the borrow is closed at it.
 -- A `&mut` slice is given up for good, at its own lifetime, share and name: what the step says of its last list is what is said of it at exit. Of every other parameter nothing is had at exit. No machine value of a struct is written out: a record's is `LL.val` of it.
 -- Assumes nothing.
-use mathlib.Core.Path.{_≡_, refl, ap}
+use mathlib.Core.Path.{refl, ap}
 use Prim.Native.Nat.{ℕ, _<_, _^_}
 use mathlib.Core.List.{[], _∷_, List}
 use lib.ListN.{length}

@@ -4,7 +4,7 @@ use borrow.Author.Needs.{needs}
 use native.Mathlib.Omega.{arith}
 use lib.ListN.{length}
 use lib.Seq.{sets}
-use lib.ListN.{drop, getD}
+use lib.ListN.{drop}
 use mathlib.Core.Path.{refl, sym, _∙_}
 use mathlib.Core.Logic.{⊎-elim, inl, inr}
 use Rattle.cells.proofs.Count.{copy-turn, copy-end}

@@ -1,10 +1,10 @@
 use mathlib.Core.Logic.{⊎-elim, inl, inr}
-use Prim.Native.Nat.{ℕ, _+_, _≤_, _<_, _*_, _-_}
-use mathlib.Core.Path.{_≡_, refl, ap, sym, _∙_}
+use Prim.Native.Nat.{_+_, _≤_, _-_}
+use mathlib.Core.Path.{_≡_}
 use borrow.Author.Needs.{needs}
 use native.Mathlib.Omega.{arith}
-use lib.ListN.{length, take, drop, getD}
-use Rattle.cells.specs.Differ.{unlikeOf, differs}
+use lib.ListN.{drop}
+use Rattle.cells.specs.Differ.{differs}
 use Rattle.cells.proofs.Count.{differs-block, differs-few, differs-end}
 use Rattle.cells.proofs.differ.Statement.{statement}
 use Rattle.cells.proofs.differ.Tie as tie

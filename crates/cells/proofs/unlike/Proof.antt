@@ -1,10 +1,7 @@
-use Prim.Native.Nat.{ℕ, _+_, _≤_, _<_, _*_, _-_}
-use mathlib.Core.Path.{_≡_, refl, ap, sym, _∙_}
+use Prim.Native.Nat.{_-_}
 use borrow.Author.Needs.{needs}
-use native.Mathlib.Omega.{arith}
-use lib.ListN.{length, take, drop, getD}
+use lib.ListN.{take}
 use borrow.Author.Tests.{eq-eqb, ne-eqb}
-use Rattle.cells.specs.Differ.{unlikeOf, differs}
 use Rattle.cells.proofs.unlike.Statement.{statement}
 use Rattle.cells.proofs.unlike.Tie as tie
 use Rattle.cells.proofs.unlike.Reads as reads

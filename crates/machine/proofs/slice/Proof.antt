@@ -1,4 +1,4 @@
-use mathlib.Core.Path.{_≡_, refl, ap, sym, _∙_}
+use mathlib.Core.Path.{_∙_}
 use Rattle.chain.proofs.Tests.{tests}
 use Rattle.machine.specs.Calls.{sliceOf, sliceMemory}
 use borrow.Author.Needs.{needs}

@@ -1,7 +1,7 @@
-use mathlib.Core.Path.{_≡_, refl, ap, sym, _∙_}
+use mathlib.Core.Path.{sym, _∙_}
 use Rattle.chain.proofs.Tests.{tests}
 use Rattle.machine.proofs.Starts.{start-gives, start-passes}
-use Rattle.machine.specs.Calls.{startOf, startNumber}
+use Rattle.machine.specs.Calls.{startOf}
 use lib.ListN.{length}
 use borrow.Author.Needs.{needs}
 use Rattle.machine.proofs.start.Statement.{statement}

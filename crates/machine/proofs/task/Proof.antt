@@ -1,4 +1,3 @@
-use mathlib.Core.Path.{_≡_, refl, sym, _∙_}
 use Rattle.chain.proofs.Tests.{tests}
 use Rattle.machine.proofs.task.Statement.{statement}
 use Rattle.machine.proofs.task.Tie as tie

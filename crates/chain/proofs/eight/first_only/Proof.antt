@@ -1,9 +1,8 @@
 use Prim.Native.Nat.{_-_}
-use mathlib.Core.Path.{_≡_, refl, sym, _∙_}
+use mathlib.Core.Path.{_≡_, sym, _∙_}
 use mathlib.Core.List.{_++_}
 use borrow.Author.Needs.{needs}
-use native.Mathlib.Omega.{arith}
-use lib.ListN.{length, take, replicate, length-set}
+use lib.ListN.{length, take, replicate}
 use Rattle.chain.specs.Calls.{firstOnly}
 use Rattle.chain.proofs.Turns.{first-turn, first-end}
 use Rattle.chain.proofs.eight.first_only.Statement.{statement}

@@ -1,10 +1,10 @@
-use Prim.Native.Nat.{ℕ, _+_, _≤_, _<_, _-_}
+use Prim.Native.Nat.{ℕ, _+_, _-_}
 use mathlib.Core.Bool.{Bool}
 use mathlib.Core.List.{List}
-use mathlib.Core.Path.{_≡_, refl, sym, ap, _∙_}
+use mathlib.Core.Path.{_≡_, sym, ap, _∙_}
 use native.Mathlib.Omega.{arith}
 use borrow.Author.Needs.{needs}
-use lib.ListN.{length, drop, getD}
+use lib.ListN.{length, drop}
 use Rattle.chain.specs.State.{zeros, unusedZero}
 use Rattle.chain.proofs.Tests.{tests}
 use Rattle.chain.proofs.Turns.{zeros-turn, zeros-end}

@@ -1,12 +1,11 @@
-use Prim.Native.Nat.{_+_, _≤_, _<_, _-_}
-use mathlib.Core.Path.{_≡_, refl, sym, _∙_}
+use Prim.Native.Nat.{_≤_, _-_}
+use mathlib.Core.Path.{_≡_, sym, _∙_}
 use native.Mathlib.Omega.{arith}
 use borrow.Author.Needs.{needs}
-use lib.ListN.{length, drop, getD}
-use Rattle.chain.specs.State.{zeros, unusedZero}
+use lib.ListN.{length, drop}
 use Rattle.chain.specs.Kinds.{knownOf}
 use Rattle.chain.proofs.Tests.{tests}
-use Rattle.chain.proofs.Turns.{known-turn, known-past, known-end, zeros-turn, zeros-end}
+use Rattle.chain.proofs.Turns.{known-turn, known-past, known-end}
 use Rattle.chain.proofs.kinds.known.Statement.{statement}
 use Rattle.chain.proofs.kinds.known.Tie as tie
 use Rattle.chain.proofs.kinds.known.Reads as reads

@@ -1,5 +1,4 @@
 use Rattle.chain.specs.State.{stateNumber, openNumber}
-use Rattle.chain.proofs.Tests.{tests}
 use borrow.Author.Needs.{needs}
 use Rattle.chain.proofs.state.state_number.Statement.{statement}
 use Rattle.chain.proofs.state.state_number.Tie as tie

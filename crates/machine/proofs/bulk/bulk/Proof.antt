@@ -1,5 +1,4 @@
-use mathlib.Core.Path.{_≡_, refl, ap, sym, _∙_}
-use Rattle.chain.proofs.Tests.{tests}
+use mathlib.Core.Path.{refl, ap, _∙_}
 use Rattle.chain.specs.declared.Place.{Place}
 use Rattle.machine.proofs.Block.{block}
 use Rattle.machine.proofs.Frame.{passed-device}

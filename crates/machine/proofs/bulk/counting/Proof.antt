@@ -1,5 +1,3 @@
-use mathlib.Core.Path.{_≡_, refl, sym, _∙_}
-use Rattle.chain.proofs.Tests.{tests}
 use borrow.Author.Needs.{needs}
 use Rattle.machine.proofs.bulk.counting.Statement.{statement}
 use Rattle.machine.proofs.bulk.counting.Tie as tie

@@ -1,5 +1,3 @@
-use mathlib.Core.Path.{_≡_, refl, ap, sym, _∙_}
-use Rattle.chain.proofs.Tests.{tests}
 use borrow.Author.Needs.{needs}
 use Rattle.machine.proofs.bulk.headed.Statement.{statement}
 use Rattle.machine.proofs.bulk.headed.Tie as tie

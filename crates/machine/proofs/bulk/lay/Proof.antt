@@ -1,4 +1,3 @@
-use mathlib.Core.Path.{_≡_, refl, ap, sym, _∙_}
 use Rattle.chain.proofs.Tests.{tests}
 use lib.ListN.{length}
 use Prim.Native.Nat.{_≤_}

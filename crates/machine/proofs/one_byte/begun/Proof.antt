@@ -1,4 +1,3 @@
-use mathlib.Core.Path.{_≡_, refl, sym, _∙_}
 use Rattle.chain.proofs.Tests.{tests}
 use Rattle.machine.proofs.one_byte.begun.Statement.{statement}
 use Rattle.machine.proofs.one_byte.begun.Tie as tie

@@ -1,6 +1,6 @@
-use mathlib.Core.Path.{_≡_, refl, sym, _∙_}
+use mathlib.Core.Path.{_∙_}
 use Rattle.chain.proofs.Tests.{tests}
-use Rattle.machine.specs.Byte.{numberOf, passedOf, advanceOf}
+use Rattle.machine.specs.Byte.{numberOf}
 use borrow.Author.Needs.{needs}
 use Rattle.machine.proofs.one_byte.number_at_check.Statement.{statement}
 use Rattle.machine.proofs.one_byte.number_at_check.Tie as tie

@@ -1,5 +1,4 @@
-use Rattle.machine.specs.Byte.{numberOf, passedOf, advanceOf}
-use mathlib.Core.Path.{_≡_, refl, sym, _∙_}
+use Rattle.machine.specs.Byte.{numberOf}
 use Rattle.chain.proofs.Tests.{tests}
 use Rattle.machine.proofs.one_byte.number_at_control.Statement.{statement}
 use Rattle.machine.proofs.one_byte.number_at_control.Tie as tie

@@ -1,6 +1,5 @@
-use mathlib.Core.Path.{_≡_, refl, sym, _∙_}
 use Rattle.chain.proofs.Tests.{tests}
-use Rattle.machine.specs.Byte.{numberOf, passedOf, advanceOf}
+use Rattle.machine.specs.Byte.{numberOf}
 use borrow.Author.Needs.{needs}
 use Rattle.machine.proofs.one_byte.number_at_start.Statement.{statement}
 use Rattle.machine.proofs.one_byte.number_at_start.Tie as tie

@@ -1,7 +1,4 @@
-use mathlib.Core.Path.{_≡_, refl, sym, _∙_}
-use Rattle.chain.proofs.Tests.{tests}
-use Rattle.machine.specs.Run.{addressOf, memoryOf, registersOf, missedOf, Run, run, stepOf, runOf}
-use Rattle.chain.proofs.Base.{read-past, store-past}
+use Rattle.machine.specs.Run.{addressOf}
 use native.Mathlib.Omega.{arith}
 use borrow.Author.Needs.{needs}
 use Rattle.machine.proofs.run.address.Statement.{statement}

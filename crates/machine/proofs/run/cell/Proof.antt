@@ -1,8 +1,5 @@
-use mathlib.Core.Path.{_≡_, refl, sym, _∙_}
-use Rattle.chain.proofs.Tests.{tests}
-use Rattle.machine.specs.Run.{addressOf, memoryOf, registersOf, missedOf, Run, run, stepOf, runOf}
-use Rattle.chain.proofs.Base.{read-past, store-past}
-use native.Mathlib.Omega.{arith}
+use mathlib.Core.Path.{sym}
+use Rattle.chain.proofs.Base.{read-past}
 use borrow.Author.Needs.{needs}
 use Rattle.machine.proofs.run.cell.Statement.{statement}
 use Rattle.machine.proofs.run.cell.Tie as tie

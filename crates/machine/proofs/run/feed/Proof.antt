@@ -1,6 +1,5 @@
-use Prim.Native.Nat.{ℕ, _+_, _≤_, _<_, _*_, _-_}
-use mathlib.Core.Path.{_≡_, refl, ap, sym, _∙_}
-use native.Mathlib.Omega.{arith}
+use Prim.Native.Nat.{_+_, _≤_, _-_}
+use mathlib.Core.Path.{_≡_, refl, ap, _∙_}
 use borrow.Author.Needs.{needs}
 use lib.ListN.{length, drop}
 use Rattle.chain.specs.Paper.{more}

@@ -1,4 +1,3 @@
-use mathlib.Core.Path.{_≡_, refl, sym, _∙_}
 use Rattle.chain.proofs.Tests.{tests}
 use Rattle.machine.specs.Calls.{fedOf}
 use borrow.Author.Needs.{needs}

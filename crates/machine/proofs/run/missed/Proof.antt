@@ -1,8 +1,6 @@
-use mathlib.Core.Path.{_≡_, refl, sym, _∙_}
+use mathlib.Core.Path.{_∙_}
 use Rattle.chain.proofs.Tests.{tests}
-use Rattle.machine.specs.Run.{addressOf, memoryOf, registersOf, missedOf, Run, run, stepOf, runOf}
-use Rattle.chain.proofs.Base.{read-past, store-past}
-use native.Mathlib.Omega.{arith}
+use Rattle.machine.specs.Run.{missedOf}
 use borrow.Author.Needs.{needs}
 use Rattle.machine.proofs.run.missed.Statement.{statement}
 use Rattle.machine.proofs.run.missed.Tie as tie

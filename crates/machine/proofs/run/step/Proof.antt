@@ -1,4 +1,3 @@
-use mathlib.Core.Path.{_≡_, refl, ap, sym, _∙_}
 use Rattle.chain.proofs.Tests.{tests}
 use Rattle.machine.specs.Run.{stepOf}
 use borrow.Author.Needs.{needs}

@@ -1,5 +1,3 @@
-use mathlib.Core.Path.{_≡_, refl, sym, _∙_}
-use Rattle.chain.proofs.Tests.{tests}
 use borrow.Author.Tests.{eq-eqb, ne-eqb}
 use Rattle.machine.proofs.run.unlike.Statement.{statement}
 use Rattle.machine.proofs.run.unlike.Tie as tie
