@@ -8,7 +8,7 @@ use lib.Dec.{eqb}
 use Rattle.chain.specs.declared.Chain.{Chain}
 use Rattle.chain.specs.Paper.{done, bad-chain, no-run, ill-formed, closed}
 use Rattle.chain.specs.Rules.{pick, Rule, firstOf}
-use Rattle.chain.specs.State.{badChain, illFormed, stateRules, openRules, stateNumber, openNumber}
+use Rattle.chain.specs.State.{badChain, illFormed, stateRules, openRules, stateNumber, openNumber, feedRules, feedNumber}
 
 two-give : (p q : Bool) (x : ℕ) → (pick p bad-chain (pick q ill-formed done) ≡ done → ⊥)
     → pick p bad-chain (pick q ill-formed x) ≡ pick p bad-chain (pick q ill-formed done)
@@ -51,3 +51,11 @@ module _ (c : Chain) (len : ℕ) (rules : List Rule) (n : ℕ) where
   pub open-passes : openNumber c len ≡ done → firstOf (openRules c len rules) n ≡ firstOf rules n
   unfolding openNumber
   open-passes h = three-pass (badChain (c .count) (c .kinds) len) (illFormed c) (eqb (c .place .running) closed) (firstOf rules n) h
+
+  pub feed-gives : (feedNumber c len ≡ done → ⊥) → firstOf (feedRules c len rules) n ≡ feedNumber c len
+  unfolding feedNumber
+  feed-gives h = three-give (badChain (c .count) (c .kinds) len) (illFormed c) (eqb (c .place .running) closed) (firstOf rules n) h
+
+  pub feed-passes : feedNumber c len ≡ done → firstOf (feedRules c len rules) n ≡ firstOf rules n
+  unfolding feedNumber
+  feed-passes h = three-pass (badChain (c .count) (c .kinds) len) (illFormed c) (eqb (c .place .running) closed) (firstOf rules n) h

@@ -9,7 +9,7 @@ use Rattle.chain.specs.declared.Chain.{Chain}
 use Rattle.chain.specs.Paper.{closed, opened, most-devices, most-memory, done, more}
 use Rattle.chain.specs.Set.{with·place, closedPlace}
 use Rattle.chain.specs.Kinds.{baseOf, knownOf}
-use Rattle.chain.specs.State.{badChain, unusedZero, wellFormed, illFormed, stateRules, openRules, stateNumber, openNumber}
+use Rattle.chain.specs.State.{badChain, unusedZero, wellFormed, illFormed, stateRules, openRules, feedRules, stateNumber, openNumber, feedNumber}
 use Rattle.chain.proofs.Means.{says, said, reads}
 use Rattle.chain.proofs.WellFormed.{Formed, formed-of}
 use Rattle.chain.proofs.FirstOf.{None, first-none, none-first, first-never}
@@ -121,3 +121,24 @@ open-is-taken c len h =
 pub open-never-more : (c : Chain) (len : ℕ) → openNumber c len ≡ more → ⊥
 unfolding openNumber
 open-never-more c len = first-never (openRules c len []) done more (omega arith) tt
+
+-- ---- a state that takes bytes
+
+module _ (c : Chain) (len : ℕ) where
+  pub feed-is-open : feedNumber c len ≡ done → openNumber c len ≡ done
+  unfolding feedNumber openNumber
+  feed-is-open h = h
+
+  pub feed-sound : feedNumber c len ≡ done → Sound c len
+  feed-sound h = sound-of c len (feed-is-open h)
+
+  pub sound-feed : Sound c len → feedNumber c len ≡ done
+  unfolding feedNumber openNumber
+  sound-feed s = of-sound c len s
+
+  pub feed-is-taken : feedNumber c len ≡ done → stateNumber c len ≡ done
+  feed-is-taken h = open-is-taken c len (feed-is-open h)
+
+  pub feed-never-more : feedNumber c len ≡ more → ⊥
+  unfolding feedNumber
+  feed-never-more = first-never (feedRules c len []) done more (omega arith) tt

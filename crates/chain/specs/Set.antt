@@ -7,6 +7,14 @@ abbrev pub with·running : Place → ℕ → Place
 with·running p v =
     record { running = v; mode = p .mode; check = p .check; device = p .device; awaited = p .awaited; left = p .left; control = p .control; start = p .start; end = p .end; next = p .next; taken = p .taken; mismatches = p .mismatches }
 
+abbrev pub with·mode : Place → ℕ → Place
+with·mode p v =
+    record { running = p .running; mode = v; check = p .check; device = p .device; awaited = p .awaited; left = p .left; control = p .control; start = p .start; end = p .end; next = p .next; taken = p .taken; mismatches = p .mismatches }
+
+abbrev pub with·check : Place → ℕ → Place
+with·check p v =
+    record { running = p .running; mode = p .mode; check = v; device = p .device; awaited = p .awaited; left = p .left; control = p .control; start = p .start; end = p .end; next = p .next; taken = p .taken; mismatches = p .mismatches }
+
 abbrev pub with·device : Place → ℕ → Place
 with·device p v =
     record { running = p .running; mode = p .mode; check = p .check; device = v; awaited = p .awaited; left = p .left; control = p .control; start = p .start; end = p .end; next = p .next; taken = p .taken; mismatches = p .mismatches }

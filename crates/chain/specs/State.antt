@@ -75,8 +75,15 @@ stateRules c len rules =
 abbrev pub openRules : Chain → ℕ → List Rule → List Rule
 openRules c len rules = stateRules c len ((eqb (c .place .running) closed gives no-run) ∷ rules)
 
+-- and a call that feeds bytes: the same
+abbrev pub feedRules : Chain → ℕ → List Rule → List Rule
+feedRules c len rules = openRules c len rules
+
 unfoldable pub stateNumber : Chain → ℕ → ℕ
 stateNumber c len = firstOf (stateRules c len []) done
 
 unfoldable pub openNumber : Chain → ℕ → ℕ
 openNumber c len = firstOf (openRules c len []) done
+
+unfoldable pub feedNumber : Chain → ℕ → ℕ
+feedNumber c len = firstOf (feedRules c len []) done

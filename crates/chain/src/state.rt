@@ -9,7 +9,7 @@ use crate::kinds::size_of;
 use crate::paper::*;
 ghost use mathlib.Core.Path.{_≡_};
 ghost use Rattle.chain.specs.Rules.{allOf};
-ghost use Rattle.chain.specs.State.{badChain, formed, wellFormed, illFormed, stateNumber, openNumber};
+ghost use Rattle.chain.specs.State.{badChain, formed, wellFormed, illFormed, stateNumber, openNumber, feedNumber};
 
 // Number 1.
 pub fn bad_chain(count: u8, kinds: [u8; 8], len: usize) -> bool
@@ -109,4 +109,11 @@ pub fn open_number(c: Chain, len: usize) -> u8
         return NO_RUN;
     }
     DONE
+}
+
+// The same for a call that feeds bytes.
+pub fn feed_number(c: Chain, len: usize) -> u8
+    ensures { λ r. ⌜ r ≡ feedNumber c len ⌝ }
+{
+    open_number(c, len)
 }

@@ -9,14 +9,15 @@ use native.Mathlib.Omega.{arith}
 use lib.Dec.{eqb, ltb}
 use lib.ListN.{length, take, drop, length-append, length-take}
 use borrow.Author.Tests.{eqb-true, eqb-false, ne-eqb, le-ltb, ltb-true, ltb-false}
-use Rattle.chain.proofs.ByCases.{by-test, either-way}
+use Rattle.chain.proofs.ByCases.{by-test, either-way, no-case, _or_, below}
+use Rattle.chain.proofs.Sound.{feed-is-open}
 use Rattle.chain.specs.declared.Chain.{Chain}
 use Rattle.chain.specs.declared.Place.{Place}
 use Rattle.chain.specs.Paper.{at·preamble, at·second, at·null, at·start, at·start-low, at·end, at·end-low, at·data, done, no-preamble, bad-start, bad-end, more}
 use Rattle.chain.specs.Rules.{Rule, _gives_, firstOf, from}
 use Rattle.chain.specs.Set.{with·place, closedPlace}
 use Rattle.chain.specs.Kinds.{baseOf}
-use Rattle.chain.specs.State.{openNumber}
+use Rattle.chain.specs.State.{openNumber, feedNumber}
 use Rattle.machine.specs.Run.{run, runOf}
 use Rattle.machine.specs.Calls.{answered, fedOf, sliceOf, sliceMemory}
 use Rattle.machine.specs.Byte.{sizeHere}
@@ -53,17 +54,6 @@ pub record Closes (c : Chain) (m : List ℕ) : Type 0 where
   pub short : length (closingBytes c m) ≤ sizeHere c + 3
 
 -- ---- all awaited bytes
-
--- a rule at each number below n, as nested pairs
-abbrev Below : (ℕ → Type 0) → ℕ → Type 0
-Below P zero = Unit {0}
-Below P (suc n) = Below P n × P n
-
-below : (P : ℕ → Type 0) (n : ℕ) → Below P n → (a : ℕ) → a < n → P a
-below P zero t a h = absurd (not-suc-le-zero h)
-below P (suc n) t a h =
-    let before = below P n (t .0) a in
-    by-test (eqb a n) (λ e. subst P (sym (eqb-true a n e)) (t .1)) (λ e. before (omega (arith, eqb-false a n e)))
 
 module _ (c : Chain) (m : List ℕ) where
   -- at the awaited byte a the closing bytes end the run, and are short
@@ -189,7 +179,7 @@ module _ (c : Chain) (m : List ℕ) (s : Sound c m) where
   every : Closed-at c m (c .place .awaited)
   every =
       below (Closed-at c m) 14
-      ((((((((((((((tt, row-0), row-1), row-2), row-3), row-4), row-5), row-6), row-7), row-8), row-9), row-10), row-11), row-12), row-13)
+      (no-case or row-0 or row-1 or row-2 or row-3 or row-4 or row-5 or row-6 or row-7 or row-8 or row-9 or row-10 or row-11 or row-12 or row-13)
       (c .place .awaited) (s .awaited)
 
 -- no closing number is 16
@@ -229,10 +219,10 @@ pub record SliceCloses (c : Chain) (m : List ℕ) : Type 0 where
       ≡ answered (with·place c closedPlace) (closingNumber c) ((c .place .taken + length (closingBytes c m)) % 2 ^ 32) (c .place .mismatches % 2 ^ 32)
   pub memory : sliceMemory c m (closingBytes c m) ≡ m
 
-pub slice-closes : (c : Chain) (m : List ℕ) → length (c .kinds) ≡ 8 → openNumber c (length m) ≡ done → SliceCloses c m
+pub slice-closes : (c : Chain) (m : List ℕ) → length (c .kinds) ≡ 8 → feedNumber c (length m) ≡ done → SliceCloses c m
 unfolding sliceOf sliceMemory fedOf
 slice-closes c m eight h =
-    let e = every c m (sound c m h eight) .ends refl in
+    let e = every c m (sound c m (feed-is-open c (length m) h) eight) .ends refl in
     let z : c .place .mismatches + 0 ≡ c .place .mismatches = omega arith in
     record {
       fed = rw (h, e .is, ne-eqb (closingNumber c) more (never-more c), e .along .chain, e .along .taken, e .along .mismatches, z);

@@ -11,13 +11,13 @@ use lib.ListN.{length}
 use Rattle.chain.specs.declared.Chain.{Chain}
 use Rattle.chain.specs.Paper.{preamble, at·preamble, at·second, at·check, two-preambles, done, more}
 use Rattle.chain.specs.Rules.{pick, firstOf}
-use Rattle.chain.specs.State.{openRules, openNumber}
+use Rattle.chain.specs.State.{feedRules, feedNumber}
 use Rattle.chain.proofs.ByCases.{by-test}
-use Rattle.chain.proofs.Numbers.{open-gives, open-passes}
+use Rattle.chain.proofs.Numbers.{feed-gives, feed-passes}
 use Rattle.machine.specs.declared.Fed.{Fed}
 use Rattle.machine.specs.Byte.{awaits, nextDevice, begins, registerBegun, byteRules, numberOf}
 use Rattle.machine.specs.Run.{run, runOf}
-use Rattle.machine.specs.Calls.{answered, fedOf, sliceOf}
+use Rattle.machine.specs.Calls.{unfed, fedOf, sliceOf}
 use Rattle.machine.proofs.Runs.{step-number}
 use Rattle.demands.specs.Formed.{Sets}
 use Rattle.demands.specs.Table.{Table}
@@ -63,40 +63,40 @@ module _ (bit : ℕ) (c : Chain) (b : ℕ) where
 -- where none of 1, 17 and 4 is given the run is fed, and else nothing is
 module _ (c : Chain) (m s : List ℕ) where
   abbrev refusal : ℕ
-  refusal = openNumber c (length m)
+  refusal = feedNumber c (length m)
 
-  pub slice-fed : openNumber c (length m) ≡ done → sliceOf c m s ≡ fedOf (runOf (run c m more) s)
+  pub slice-fed : feedNumber c (length m) ≡ done → sliceOf c m s ≡ fedOf (runOf (run c m more) s)
   unfolding sliceOf
-  slice-fed e = ap (λ (q : Bool). pick q (fedOf (runOf (run c m more) s)) (answered c refusal 0 0)) (eq-eqb refusal done e)
+  slice-fed e = ap (λ (q : Bool). pick q (fedOf (runOf (run c m more) s)) (unfed c refusal)) (eq-eqb refusal done e)
 
-  pub slice-unfed : openNumber c (length m) ≢ done → sliceOf c m s ≡ answered c (openNumber c (length m)) 0 0
+  pub slice-unfed : feedNumber c (length m) ≢ done → sliceOf c m s ≡ unfed c (feedNumber c (length m))
   unfolding sliceOf
-  slice-unfed h = ap (λ (q : Bool). pick q (fedOf (runOf (run c m more) s)) (answered c refusal 0 0)) (ne-eqb refusal done h)
+  slice-unfed h = ap (λ (q : Bool). pick q (fedOf (runOf (run c m more) s)) (unfed c refusal)) (ne-eqb refusal done h)
 
-  pub slice-on : openNumber c (length m) ≡ done → sliceNumber c m s ≡ runOf (run c m more) s .number
+  pub slice-on : feedNumber c (length m) ≡ done → sliceNumber c m s ≡ runOf (run c m more) s .number
   unfolding fedOf
   slice-on e = ap (λ (f : Fed). f .answer .number) (slice-fed e)
 
-  pub slice-off : openNumber c (length m) ≢ done → sliceNumber c m s ≡ openNumber c (length m)
+  pub slice-off : feedNumber c (length m) ≢ done → sliceNumber c m s ≡ feedNumber c (length m)
   slice-off h = ap (λ (f : Fed). f .answer .number) (slice-unfed h)
 
 pub run-one : (c : Chain) (m : List ℕ) (b : ℕ) → runOf (run c m more) (b ∷ []) .number ≡ numberOf c b
 unfolding runOf
 run-one c m b = step-number c m b
 
-byte-number : (c : Chain) (m : List ℕ) (b : ℕ) → sliceNumber c m (b ∷ []) ≡ firstOf (openRules c (length m) (byteRules c b)) more
+byte-number : (c : Chain) (m : List ℕ) (b : ℕ) → sliceNumber c m (b ∷ []) ≡ firstOf (feedRules c (length m) (byteRules c b)) more
 unfolding numberOf
 byte-number c m b =
-    by-test (eqb (openNumber c (length m)) done)
+    by-test (eqb (feedNumber c (length m)) done)
     (λ e.
-    let z = eqb-true (openNumber c (length m)) done e in
-    slice-on c m (b ∷ []) z ∙ run-one c m b ∙ sym (open-passes c (length m) (byteRules c b) more z))
+    let z = eqb-true (feedNumber c (length m)) done e in
+    slice-on c m (b ∷ []) z ∙ run-one c m b ∙ sym (feed-passes c (length m) (byteRules c b) more z))
     (λ e.
-    let z = eqb-false (openNumber c (length m)) done e in
-    slice-off c m (b ∷ []) z ∙ sym (open-gives c (length m) (byteRules c b) more z))
+    let z = eqb-false (feedNumber c (length m)) done e in
+    slice-off c m (b ∷ []) z ∙ sym (feed-gives c (length m) (byteRules c b) more z))
 
 pub ruleset byte-reads = (t-begins, state-reads)
 
 pub byte-table : (c : Chain) (m : List ℕ) (b : ℕ) → Table (sliceOf c m (b ∷ []) .answer .number) (byteTable c m b) more
 byte-table c m b =
-    rw (byte-number c m b) (table (openRules c (length m) (byteRules c b)) (byteTable c m b) more tt (search byte-reads depth 40))
+    rw (byte-number c m b) (table (feedRules c (length m) (byteRules c b)) (byteTable c m b) more tt (search byte-reads depth 40))

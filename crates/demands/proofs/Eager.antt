@@ -7,7 +7,7 @@ use native.Mathlib.Omega.{arith}
 use lib.Dec.{lit<}
 use lib.ListN.{take}
 use Rattle.chain.specs.Kinds.{sizeOf, baseOf, knownOf}
-use Rattle.chain.specs.State.{badChain, unusedZero, wellFormed, illFormed, stateNumber, openNumber}
+use Rattle.chain.specs.State.{badChain, unusedZero, wellFormed, illFormed, stateNumber, feedNumber}
 use Rattle.machine.specs.Byte.{numberOf, passedOf, advanceOf}
 use Rattle.machine.specs.Run.{addressOf, memoryOf, registersOf, missedOf, stepOf, runOf}
 use Rattle.machine.specs.Calls.{startNumber, startOf, fedOf, sliceOf, sliceMemory}
@@ -46,16 +46,16 @@ small = (lit< tt, (lit< tt, (lit< tt, (lit< tt, (lit< tt, (lit< tt, (lit< tt, (l
 
 -- it loads whole
 pub eager-whole : Whole eager 1 streamB teaching cells0
-unfolding sizeOf baseOf knownOf badChain unusedZero wellFormed illFormed stateNumber openNumber numberOf passedOf advanceOf addressOf memoryOf registersOf missedOf stepOf runOf startNumber startOf fedOf sliceOf sliceMemory
+unfolding sizeOf baseOf knownOf badChain unusedZero wellFormed illFormed stateNumber feedNumber numberOf passedOf advanceOf addressOf memoryOf registersOf missedOf stepOf runOf startNumber startOf fedOf sliceOf sliceMemory
 eager-whole = record { started = refl; number = refl; taken = refl }
 
 -- and its memory is then that of ours: it is the stop that shuts it out
 pub eager-right : load eager 1 teaching cells0 streamB .memory ≡ load ours 1 teaching cells0 streamB .memory
-unfolding sizeOf baseOf knownOf badChain unusedZero wellFormed illFormed stateNumber openNumber numberOf passedOf advanceOf addressOf memoryOf registersOf missedOf stepOf runOf startNumber startOf fedOf sliceOf sliceMemory
+unfolding sizeOf baseOf knownOf badChain unusedZero wellFormed illFormed stateNumber feedNumber numberOf passedOf advanceOf addressOf memoryOf registersOf missedOf stepOf runOf startNumber startOf fedOf sliceOf sliceMemory
 eager-right = refl
 
 pub eager-out : Demand3 eager → ⊥
-unfolding reading sizeOf baseOf knownOf badChain unusedZero wellFormed illFormed stateNumber openNumber numberOf passedOf advanceOf addressOf memoryOf registersOf missedOf stepOf runOf startNumber startOf fedOf sliceOf sliceMemory
+unfolding reading sizeOf baseOf knownOf badChain unusedZero wellFormed illFormed stateNumber feedNumber numberOf passedOf advanceOf addressOf memoryOf registersOf missedOf stepOf runOf startNumber startOf fedOf sliceOf sliceMemory
 eager-out d =
     let h = d teaching cells0 1 streamB idle-teaching mode-one small eager-whole in
     let e : _≡_ {A = ℕ} 0x11 0 = h .stops reading refl 12 (omega arith) [] (take 12 streamB) refl .cells 10 (omega arith) in

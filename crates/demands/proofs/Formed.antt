@@ -13,9 +13,10 @@ use lib.Seq.{getD-drop}
 use Rattle.chain.specs.declared.Chain.{Chain}
 use Rattle.chain.specs.declared.Place.{Place}
 use Rattle.chain.specs.Paper.{opened, closed, most-devices, most-memory}
-use Rattle.chain.specs.Rules.{allFrom, allOf, from}
+use Rattle.chain.specs.Rules.{allOf, from}
 use Rattle.chain.specs.Kinds.{kinds, sizes, lookup, sizeOf, sizeAt, baseOf, knownOf}
 use Rattle.chain.specs.State.{badChain, zeros, unusedZero, formed, wellFormed, illFormed}
+use Rattle.chain.proofs.AllOf.{none, _and_, all-each, each-all, each-row}
 use Rattle.chain.proofs.ByCases.{by-test}
 use Rattle.saved.specs.Layout.{saved-length, saved-form, heldFields, placeOf, registersOf, marks, wellSaved}
 use Rattle.demands.specs.Formed.{Among, Known, Between, BadChain, UnusedZero, placeRegister, WellFormed, IllFormed, WellSaved}
@@ -141,39 +142,6 @@ module _ (xs : List ℕ) (n : ℕ) where
             (n + r .0, omega arith, λ z. r .1 (getD-drop n xs (r .0) 0 ∙ z));
         said = λ h. rw (not-so t-unused (λ u. h .2 (u (h .0) (h .1)))) refl;
       }
-
--- all of a list of tests hold exactly if each does
-infixr 20 _and_
-data Each : List Bool → Type 0 where
-  none : Each []
-  _and_ : {b : Bool} {bs : List Bool} → b ≡ true → Each bs → Each (b ∷ bs)
-
-all-from : (held : Bool) (bs : List Bool) → allFrom held bs ≡ true → Each (held ∷ bs)
-all-from held [] h = h and none
-all-from true (b ∷ bs) h = refl and all-from b bs h
-all-from false (b ∷ bs) h = absurd (false≢true (fails bs h))
-  where
-    fails : (bs : List Bool) → allFrom false bs ≡ true → false ≡ true
-    fails [] h = h
-    fails (b ∷ bs) h = fails bs h
-
-from-each : (held : Bool) (bs : List Bool) → held ≡ true → Each bs → allFrom held bs ≡ true
-from-each held [] e none = e
-from-each true (b ∷ bs) e (h and hs) = from-each b bs h hs
-from-each false (b ∷ bs) e (h and hs) = absurd (false≢true e)
-
-all-each : (bs : List Bool) → allOf bs ≡ true → Each bs
-all-each [] h = none
-all-each (b ∷ bs) h = all-from b bs h
-
-each-all : (bs : List Bool) → Each bs → allOf bs ≡ true
-each-all [] none = refl
-each-all (b ∷ bs) (h and hs) = from-each b bs h hs
-
-each-row : (bs : List Bool) → Each bs → (i : ℕ) → getD bs i true ≡ true
-each-row [] none i = refl
-each-row (b ∷ bs) (h and hs) zero = h
-each-row (b ∷ bs) (h and hs) (suc i) = each-row bs hs i
 
 says : {b : Bool} {P : Type 0} → Tests b P → b ≡ true → P
 says t = t .says

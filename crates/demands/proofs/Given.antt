@@ -7,12 +7,12 @@ use lib.ListN.{length, take}
 use Rattle.chain.specs.declared.Chain.{Chain}
 use Rattle.chain.specs.Paper.{most-devices, done, more}
 use Rattle.chain.specs.Set.{with·place}
-use Rattle.chain.specs.State.{openNumber}
+use Rattle.chain.specs.State.{feedNumber}
 use Rattle.machine.specs.Byte.{sizeHere}
 use Rattle.machine.specs.Run.{run, runOf}
 use Rattle.machine.specs.Calls.{openedPlace}
 use Rattle.demands.specs.Grammar.{Bytes}
-use Rattle.demands.specs.Loader.{Loader, AfterWrite}
+use Rattle.demands.specs.Loader.{Loader, AfterWrite, with·closing}
 use Rattle.demands.specs.Demand3.{Reading, meant, offered}
 use Rattle.demands.specs.Ours.{ours as loader}
 use Rattle.demands.proofs.Parse.{Parsed}
@@ -23,15 +23,7 @@ Closing = Chain → List ℕ → List ℕ → AfterWrite
 
 -- our loader, with a closing call
 abbrev pub ours : Closing → Loader
-ours closing =
-    record {
-      start = loader .start;
-      slice = loader .slice;
-      closing = closing;
-      write = loader .write;
-      list = loader .list;
-      hunt = loader .hunt;
-    }
+ours closing = with·closing loader closing
 
 -- a lent chain that no number refuses, with a run open: eight kinds and registers, and bytes, as the types of the code say
 pub record Open (s : Chain) (m : List ℕ) : Type 0 where
@@ -39,7 +31,7 @@ pub record Open (s : Chain) (m : List ℕ) : Type 0 where
   pub registers : length (s .registers) ≡ 8
   pub register-bytes : Bytes (s .registers)
   pub memory-bytes : Bytes m
-  pub sound : openNumber s (length m) ≡ done
+  pub sound : feedNumber s (length m) ≡ done
 
 -- the bytes cs end the open run of s, at exactly their last, and change no cell and no register
 pub record Shuts (s : Chain) (m cs : List ℕ) : Type 0 where
@@ -58,6 +50,6 @@ pub record Given (closing : Closing) : Type 0 where
   -- two readings of one stream mean the same
   pub one-reading : (c : Chain) (mode : ℕ) (bs : List ℕ) (x y : Reading c mode bs) → meant x ≡ meant y
   -- an open run that is well formed is so after any bytes that leave it open
-  pub run-keeps : (o : Chain) (m bs : List ℕ) → openNumber o (length m) ≡ done → length (o .registers) ≡ 8 → Bytes bs
+  pub run-keeps : (o : Chain) (m bs : List ℕ) → feedNumber o (length m) ≡ done → length (o .registers) ≡ 8 → Bytes bs
       → runOf (run o m more) bs .number ≡ more
-      → openNumber (runOf (run o m more) bs .chain) (length (runOf (run o m more) bs .memory)) ≡ done
+      → feedNumber (runOf (run o m more) bs .chain) (length (runOf (run o m more) bs .memory)) ≡ done

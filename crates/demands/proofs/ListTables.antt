@@ -14,12 +14,13 @@ use Rattle.chain.specs.Paper.{writing, first-mode, two-preambles, most-memory, 
 use Rattle.chain.specs.Rules.{Rule, _gives_, pick, firstOf, from}
 use Rattle.chain.specs.Set.{with·place}
 use Rattle.chain.specs.Kinds.{sizeOf, baseOf, knownOf}
-use Rattle.chain.specs.State.{badChain, unusedZero, wellFormed, illFormed, openNumber}
+use Rattle.chain.specs.State.{badChain, unusedZero, wellFormed, illFormed, feedNumber, stateNumber}
 use Rattle.chain.specs.Calls.{firstOnly, freshChain, chainNumber, newOf}
 use Rattle.chain.proofs.Sizes.{size-most}
 use Rattle.chain.proofs.ByCases.{by-test}
 use Rattle.machine.specs.Byte.{byteRules, numberOf}
 use Rattle.machine.specs.Run.{Run, run, stepOf, runOf}
+use Rattle.machine.proofs.Started.{opened-feeds}
 use Rattle.machine.specs.Calls.{openedPlace, startNumber, startOf}
 use Rattle.machine.proofs.Runs.{step-number}
 use Rattle.machine.proofs.Taken.{first-on, first-off}
@@ -76,13 +77,9 @@ module _ (kind : ℕ) (known : sizeOf kind ≢ 0) where
         ap (λ (c : Chain). startOf c (sizeOf kind) mode writing .chain) new-is
         ∙ ap (λ (n : ℕ). pick (eqb n done) started (freshChain 1 eight)) start-number
 
-    started-formed : illFormed started ≡ false
-    unfolding illFormed unusedZero wellFormed firstOnly
-    started-formed = rw inside
-
-    opens : (m : List ℕ) → length m ≡ sizeOf kind → openNumber started (length m) ≡ done
-    unfolding openNumber
-    opens m e = rw (started-formed, kinds-kept, e, good-chain)
+    opens : (m : List ℕ) → length m ≡ sizeOf kind → feedNumber started (length m) ≡ done
+    unfolding stateNumber
+    opens m e = opened-feeds (freshChain 1 eight) (length m) mode writing (rw (fresh-formed, kinds-kept, e, good-chain)) inside
 
 -- ---- the numbers that a run can have
 

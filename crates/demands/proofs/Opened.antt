@@ -10,10 +10,12 @@ use Rattle.chain.specs.Paper.{closed, opened, writing, first-mode, two-preamble
 use Rattle.chain.specs.Rules.{pick, from}
 use Rattle.chain.specs.Set.{with·place, closedPlace}
 use Rattle.chain.specs.Kinds.{baseOf, knownOf}
-use Rattle.chain.specs.State.{badChain, unusedZero, wellFormed, illFormed, stateNumber, openNumber}
+use Rattle.chain.specs.State.{badChain, unusedZero, wellFormed, illFormed, stateNumber, feedNumber}
+use Rattle.chain.proofs.Sound.{feed-is-taken}
 use Rattle.chain.proofs.ByCases.{by-test}
 use Rattle.machine.specs.Calls.{startNumber, startOf, openedPlace}
 use Rattle.machine.proofs.Starts.{start-passes}
+use Rattle.machine.proofs.Started.{opened-feeds}
 use Rattle.demands.specs.Loader.{Mode}
 
 -- what a state that no number refuses has, whatever its place
@@ -44,11 +46,8 @@ module _ (c : Chain) (len : ℕ) where
   unfolding stateNumber
   state-sound h = let e = two-done (badChain (c .count) (c .kinds) len) (illFormed c) done h in sound-of (e .0) (e .1)
 
-  pub open-sound : openNumber c len ≡ done → Sound c len
-  unfolding openNumber
-  open-sound h =
-      let e = two-done (badChain (c .count) (c .kinds) len) (illFormed c) (pick (eqb (c .place .running) closed) no-run done) h in
-      sound-of (e .0) (e .1)
+  pub open-sound : feedNumber c len ≡ done → Sound c len
+  open-sound h = state-sound (feed-is-taken c len h)
 
 -- a chain with no run open
 pub closed-sound : (c : Chain) (len : ℕ) → Sound c len → stateNumber (with·place c closedPlace) len ≡ done
@@ -70,16 +69,10 @@ count-sound c len s =
     some-few (c .count) (not (knownOf (c .kinds) (c .count))) (ltb most-memory (baseOf (c .kinds) (c .count)))
     (not (eqb (baseOf (c .kinds) (c .count)) len)) (s .fits)
 
--- the run that a start opens is well formed
-pub opened-sound : (c : Chain) (len mode check : ℕ) → stateNumber c len ≡ done → Mode mode → openNumber (with·place c (openedPlace mode check)) len ≡ done
-unfolding openNumber illFormed wellFormed
+-- the run that a start opens takes bytes
+pub opened-sound : (c : Chain) (len mode check : ℕ) → stateNumber c len ≡ done → Mode mode → feedNumber (with·place c (openedPlace mode check)) len ≡ done
 opened-sound c len mode check h m =
-    let s = state-sound c len h in
-    let n = lt-ltb 0 (c .count) (count-sound c len s .0) in
-    let a = le-leb first-mode mode (m .least) in
-    let b = le-leb mode two-preambles (m .most) in
-    by-test (eqb check writing) (λ e. rw (s .fits, s .kinds, s .registers, e, n, a, b))
-    (λ e. rw (s .fits, s .kinds, s .registers, e, n, a, b))
+    opened-feeds c len mode check h (rw (le-leb first-mode mode (m .least), le-leb mode two-preambles (m .most)))
 
 module _ (c : Chain) (len mode check : ℕ) (h : stateNumber c len ≡ done) (z : c .place .running ≡ closed) (m : Mode mode) where
   start-number : startNumber c len mode ≡ done

@@ -7,7 +7,7 @@ use lib.Dec.{lit<}
 use lib.ListN.{length, getD, replicate, take}
 use Rattle.chain.specs.Paper.{writing, checking}
 use Rattle.chain.specs.Kinds.{sizeOf, baseOf, knownOf}
-use Rattle.chain.specs.State.{badChain, unusedZero, wellFormed, illFormed, stateNumber, openNumber}
+use Rattle.chain.specs.State.{badChain, unusedZero, wellFormed, illFormed, stateNumber, feedNumber}
 use Rattle.machine.specs.Byte.{numberOf, passedOf, advanceOf}
 use Rattle.machine.specs.Run.{addressOf, memoryOf, registersOf, missedOf, stepOf, runOf}
 use Rattle.machine.specs.Calls.{startNumber, startOf, fedOf, sliceOf, sliceMemory}
@@ -40,7 +40,7 @@ fits-C =
     }
 
 pub barring-out : Demand2a barring → ⊥
-unfolding sizeOf baseOf knownOf badChain unusedZero wellFormed illFormed stateNumber openNumber numberOf passedOf advanceOf addressOf memoryOf registersOf missedOf stepOf startNumber startOf fedOf
+unfolding sizeOf baseOf knownOf badChain unusedZero wellFormed illFormed stateNumber feedNumber numberOf passedOf advanceOf addressOf memoryOf registersOf missedOf stepOf startNumber startOf fedOf
 barring-out d =
     let e : _≡_ {A = ℕ} 6 0 = whole-seen barring d teaching cells0 writing 1 sectionC [] idle-teaching mode-one fits-C .number in
     omega arith
@@ -48,7 +48,7 @@ barring-out d =
 -- ---- a check that writes
 
 pub check-writes-out : Demand2a checkWrites → ⊥
-unfolding sizeOf baseOf knownOf badChain unusedZero wellFormed illFormed stateNumber openNumber numberOf passedOf advanceOf addressOf memoryOf registersOf missedOf stepOf runOf startNumber startOf fedOf sliceOf sliceMemory
+unfolding sizeOf baseOf knownOf badChain unusedZero wellFormed illFormed stateNumber feedNumber numberOf passedOf advanceOf addressOf memoryOf registersOf missedOf stepOf runOf startNumber startOf fedOf sliceOf sliceMemory
 check-writes-out d =
     let e : _≡_ {A = ℕ} 0x11 0 = whole-seen checkWrites d teaching cells0 checking 1 sectionA [] idle-teaching mode-one (fits-A checking) .cells 9 (omega arith) in
     omega arith
@@ -72,12 +72,12 @@ small : Bytes streamA
 small = (lit< tt, (lit< tt, (lit< tt, (lit< tt, (lit< tt, (lit< tt, (lit< tt, (lit< tt, (lit< tt, (lit< tt, (lit< tt, (lit< tt, (lit< tt, (lit< tt, (lit< tt, tt)))))))))))))))
 
 whole : Whole shortClosing 1 streamA teaching cells0
-unfolding sizeOf baseOf knownOf badChain unusedZero wellFormed illFormed stateNumber openNumber numberOf passedOf advanceOf addressOf memoryOf registersOf missedOf stepOf runOf startNumber startOf fedOf sliceOf sliceMemory
+unfolding sizeOf baseOf knownOf badChain unusedZero wellFormed illFormed stateNumber feedNumber numberOf passedOf advanceOf addressOf memoryOf registersOf missedOf stepOf runOf startNumber startOf fedOf sliceOf sliceMemory
 whole = record { started = refl; number = refl; taken = refl }
 
 -- at the stop before the first byte the one closing byte is left out, and the run is still open
 pub short-closing-out : Demand3 shortClosing → ⊥
-unfolding reading sizeOf baseOf knownOf badChain unusedZero wellFormed illFormed stateNumber openNumber numberOf passedOf advanceOf addressOf memoryOf registersOf missedOf stepOf runOf startNumber startOf fedOf sliceOf sliceMemory closingBytes writtenNumber closingOf closingOutput
+unfolding reading sizeOf baseOf knownOf badChain unusedZero wellFormed illFormed stateNumber feedNumber numberOf passedOf advanceOf addressOf memoryOf registersOf missedOf stepOf runOf startNumber startOf fedOf sliceOf sliceMemory closingBytes writtenNumber closingOf closingOutput
 short-closing-out d =
     let h = d teaching cells0 1 streamA idle-teaching mode-one small whole in
     h .stops reading refl 0 (omega arith) [] [] refl .closes (replicate 9 0) refl .ends refl

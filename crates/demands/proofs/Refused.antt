@@ -14,7 +14,7 @@ use Rattle.chain.specs.declared.Chain.{Chain}
 use Rattle.chain.specs.Paper.{most-devices, done, more}
 use Rattle.chain.specs.Rules.{pick}
 use Rattle.chain.specs.Set.{with·place, closedPlace}
-use Rattle.chain.specs.State.{openRules, openNumber}
+use Rattle.chain.specs.State.{feedRules, feedNumber}
 use Rattle.chain.specs.Calls.{noChain, chainNumber, newOf, resetOf, resetMemory}
 use Rattle.machine.specs.declared.Fed.{Fed}
 use Rattle.machine.specs.Byte.{numberOf}
@@ -25,7 +25,7 @@ use Rattle.saved.specs.Calls.{saveNumber, saveOf, saveOutput, pickUpNumber, pic
 use Rattle.closing.specs.Calls.{writtenNumber, closingOf, closingOutput}
 use Rattle.hunt.specs.Hunt.{huntNumber, huntOf, huntOut}
 use Rattle.writer.specs.Write.{writeNumber, writeOf, writeOutput}
-use Rattle.demands.specs.Table.{Table, openTable}
+use Rattle.demands.specs.Table.{Table, feedTable}
 use Rattle.demands.specs.ByteTable.{sliceNumber, Running}
 use Rattle.demands.specs.Demand1.{AsLent, EndedAt, ByteEnded}
 use Rattle.demands.proofs.Table.{table}
@@ -90,11 +90,11 @@ write-refused kind mode control address starts ends bytes out h =
 -- ---- byte and slice
 
 -- 1, 17 and 4 are not given exactly where the state takes a byte
-pub takes-byte : (c : Chain) (m : List ℕ) → openNumber c (length m) ≡ done ↔ Running c m
-unfolding openNumber
+pub takes-byte : (c : Chain) (m : List ℕ) → feedNumber c (length m) ≡ done ↔ Running c m
+unfolding feedNumber
 takes-byte c m =
-    let t : Table (openNumber c (length m)) (openTable c m []) done
-    = table (openRules c (length m) []) (openTable c m []) done tt (search state-reads depth 40)
+    let t : Table (feedNumber c (length m)) (feedTable c m []) done
+    = table (feedRules c (length m) []) (feedTable c m []) done tt (search state-reads depth 40)
     in (
       λ e. let r = t .1 .1 .1 .0 e in record { chain = r .0; formed = r .1 .0; runs = r .1 .1 .0 },
       λ k. t .1 .1 .1 .1 (k .chain, (k .formed, (k .runs, tt))),
@@ -104,13 +104,13 @@ takes-byte c m =
 pub slice-refused : (c : Chain) (m s : List ℕ) → (Running c m → ⊥) → AsLent c m s
 unfolding sliceMemory
 slice-refused c m s h =
-    let z : openNumber c (length m) ≢ done = λ e. h (takes-byte c m .0 e) in
+    let z : feedNumber c (length m) ≢ done = λ e. h (takes-byte c m .0 e) in
     let e = slice-unfed c m s z in
     record {
       chain = ap (λ (f : Fed). f .chain) e;
       taken = ap (λ (f : Fed). f .answer .taken) e;
       mismatches = ap (λ (f : Fed). f .answer .mismatches) e;
-      memory = ap (λ (q : Bool). pick q (runOf (run c m more) s .memory) m) (ne-eqb (openNumber c (length m)) done z);
+      memory = ap (λ (q : Bool). pick q (runOf (run c m more) s .memory) m) (ne-eqb (feedNumber c (length m)) done z);
     }
 
 fed-open : (r : Run) → r .number ≡ more → fedOf r .chain ≡ r .chain
@@ -121,9 +121,9 @@ fed-ended : (r : Run) → r .number ≢ more → fedOf r .chain ≡ with·place 
 unfolding fedOf
 fed-ended r h = ap (λ (q : Bool). pick q (r .chain) (with·place (r .chain) closedPlace)) (ne-eqb (r .number) more h)
 
-memory-fed : (c : Chain) (m s : List ℕ) → openNumber c (length m) ≡ done → sliceMemory c m s ≡ runOf (run c m more) s .memory
+memory-fed : (c : Chain) (m s : List ℕ) → feedNumber c (length m) ≡ done → sliceMemory c m s ≡ runOf (run c m more) s .memory
 unfolding sliceMemory
-memory-fed c m s e = ap (λ (q : Bool). pick q (runOf (run c m more) s .memory) m) (eq-eqb (openNumber c (length m)) done e)
+memory-fed c m s e = ap (λ (q : Bool). pick q (runOf (run c m more) s .memory) m) (eq-eqb (feedNumber c (length m)) done e)
 
 -- the byte after an open run ends it
 one-ended : (r : Run) (b : ℕ) → r .number ≡ more → numberOf (r .chain) b ≢ more → runOf r (b ∷ []) ≡ run (ended (r .chain)) (r .memory) (numberOf (r .chain) b)
@@ -135,7 +135,7 @@ module _ (c : Chain) (m s : List ℕ) (k : ℕ) (l : k < length s) (h : sliceNum
   abbrev before : Run
   before = runOf (run c m more) (take k s)
 
-  z : openNumber c (length m) ≡ done
+  z : feedNumber c (length m) ≡ done
   z = open-of c m (take k s) h
 
   still : before .number ≡ more
@@ -175,11 +175,11 @@ module _ (c : Chain) (m s : List ℕ) (k : ℕ) (l : k < length s) (h : sliceNum
       }
 
 -- a slice of nothing
-nothing-fed : (c : Chain) (m : List ℕ) → openNumber c (length m) ≡ done → sliceOf c m [] ≡ answered c more (c .place .taken) (c .place .mismatches)
+nothing-fed : (c : Chain) (m : List ℕ) → feedNumber c (length m) ≡ done → sliceOf c m [] ≡ answered c more (c .place .taken) (c .place .mismatches)
 unfolding fedOf runOf
 nothing-fed c m e = slice-fed c m [] e
 
-nothing-memory : (c : Chain) (m : List ℕ) → openNumber c (length m) ≡ done → sliceMemory c m [] ≡ m
+nothing-memory : (c : Chain) (m : List ℕ) → feedNumber c (length m) ≡ done → sliceMemory c m [] ≡ m
 unfolding runOf
 nothing-memory c m e = memory-fed c m [] e
 

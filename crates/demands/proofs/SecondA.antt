@@ -12,7 +12,7 @@ use borrow.Author.Tests.{eqb-true, eqb-false}
 use Rattle.chain.specs.declared.Chain.{Chain}
 use Rattle.chain.specs.Paper.{most-devices, done, more}
 use Rattle.chain.specs.Set.{with·place}
-use Rattle.chain.specs.State.{openNumber}
+use Rattle.chain.specs.State.{feedNumber}
 use Rattle.chain.proofs.ByCases.{by-test}
 use Rattle.chain.specs.declared.Made.{Made}
 use Rattle.machine.specs.declared.Fed.{Fed}
@@ -60,10 +60,10 @@ record Went (c : Chain) (m a : List ℕ) (d : Chain) (n : List ℕ) : Type 0 whe
   number : sliceOf c m a .answer .number ≡ more
   chain : sliceOf c m a .chain ≡ d
   memory : sliceMemory c m a ≡ n
-  open-again : openNumber d (length n) ≡ done
+  open-again : feedNumber d (length n) ≡ done
   eight : length (d .registers) ≡ most-devices
 
-went : (c : Chain) (m a : List ℕ) → openNumber c (length m) ≡ done → length (c .registers) ≡ most-devices → Bytes a
+went : (c : Chain) (m a : List ℕ) → feedNumber c (length m) ≡ done → length (c .registers) ≡ most-devices → Bytes a
     → runOf (run c m more) a .number ≡ more → Went c m a (runOf (run c m more) a .chain) (runOf (run c m more) a .memory)
 went c m a o e b h =
     let r = slice-runs c m a o in
@@ -76,7 +76,7 @@ went c m a o e b h =
     }
 
 -- where the run is open before the last of them
-pub slices-join : (ps : List (List ℕ)) (c : Chain) (m last : List ℕ) → openNumber c (length m) ≡ done → length (c .registers) ≡ most-devices
+pub slices-join : (ps : List (List ℕ)) (c : Chain) (m last : List ℕ) → feedNumber c (length m) ≡ done → length (c .registers) ≡ most-devices
     → Bytes (joined ps) → runOf (run c m more) (joined ps) .number ≡ more → slices ours c m ps last ≡ ours .slice c m (joined ps ++ last)
 slices-join [] c m last o e b h = refl
 slices-join (p ∷ ps) c m last o e b h =
@@ -129,7 +129,7 @@ module _ (c : Chain) (m : List ℕ) (check mode : ℕ) (s : Section) (ss : List 
   short : length xs < 2 ^ 32
   short = stream-short c mode s ss (counts .1) (f .fits)
 
-  sound : openNumber o (length m) ≡ done
+  sound : feedNumber o (length m) ≡ done
   sound = opened-sound c (length m) mode check (i .sound) k
 
   -- one slice of it, and what is seen

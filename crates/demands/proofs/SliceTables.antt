@@ -13,16 +13,17 @@ use Rattle.chain.specs.declared.Chain.{Chain}
 use Rattle.chain.specs.Paper.{closed, done, bad-chain, no-run, no-preamble, barred, no-check, bad-check-byte, ends-here, last-device, bad-start, bad-end, more, ill-formed}
 use Rattle.chain.specs.Rules.{Rule, _gives_, pick, firstOf}
 use Rattle.chain.specs.Set.{with·place, closedPlace}
-use Rattle.chain.specs.State.{badChain, illFormed, openRules, openNumber}
+use Rattle.chain.specs.State.{badChain, illFormed, feedRules, feedNumber}
 use Rattle.chain.proofs.ByCases.{by-test}
-use Rattle.chain.proofs.Numbers.{open-gives, open-passes}
+use Rattle.chain.proofs.Sound.{feed-never-more}
+use Rattle.chain.proofs.Numbers.{feed-gives, feed-passes}
 use Rattle.machine.specs.declared.Fed.{Fed}
 use Rattle.machine.specs.Byte.{byteRules, numberOf}
 use Rattle.machine.specs.Run.{Run, run, runOf}
 use Rattle.machine.specs.Calls.{fedOf, sliceOf}
 use Rattle.machine.proofs.Feed.{run-append, run-over}
 use Rattle.machine.proofs.Runs.{step-number}
-use Rattle.demands.specs.Table.{Claim, NoneOf, Table, openTable}
+use Rattle.demands.specs.Table.{Claim, NoneOf, Table, feedTable}
 use Rattle.demands.specs.ByteTable.{Five, Six, Seven, Eight, Nine, Ten, Eleven, Twelve, Accepts, ownTable, sliceNumber, AtSome, sliceTable}
 use Rattle.demands.proofs.Table.{Tests, t-eq, Same, row, end, like, same, same-alike, table}
 use Rattle.demands.proofs.Formed.{t-bad-chain, t-ill-formed}
@@ -68,7 +69,7 @@ turn f z (suc n) =
 
 -- ---- the slices of a state that takes a byte
 
-module _ (c : Chain) (m s : List ℕ) (z : openNumber c (length m) ≡ done) where
+module _ (c : Chain) (m s : List ℕ) (z : feedNumber c (length m) ≡ done) where
   abbrev after : ℕ → Run
   after k = runOf (run c m more) (take k s)
 
@@ -187,28 +188,17 @@ run-none : (c : Chain) (m : List ℕ) → runOf (run c m more) [] .number ≡ mo
 unfolding runOf
 run-none c m = refl
 
--- 1, 17 and 4 are not 16
-open-not-more : (c : Chain) (len : ℕ) → openNumber c len ≢ more
-unfolding openNumber
-open-not-more c len = cases (badChain (c .count) (c .kinds) len) (illFormed c) (eqb (c .place .running) closed)
-  where
-    cases : (a b o : Bool) → firstOf ((a gives bad-chain) ∷ (b gives ill-formed) ∷ (o gives no-run) ∷ []) done ≢ more
-    cases true b o e = omega arith
-    cases false true o e = omega arith
-    cases false false true e = omega arith
-    cases false false false e = omega arith
-
 module _ (c : Chain) (m s : List ℕ) where
   -- 1, 17 and 4 before the rules of a run
-  before-run : {rs : List Rule} {cs : List Claim} → Same rs cs → Same (openRules c (length m) rs) (openTable c m cs)
+  before-run : {rs : List Rule} {cs : List Claim} → Same rs cs → Same (feedRules c (length m) rs) (feedTable c m cs)
   before-run t =
       row (t-bad-chain (c .count) (c .kinds) (length m)) (row (t-ill-formed c) (row (t-eq (c .place .running) closed) t))
 
-  none-table : ((P : Chain → ℕ → Type 0) → Ends P → AtSome c m s P → ⊥) → sliceNumber c m s ≡ firstOf (openRules c (length m) noRules) more
+  none-table : ((P : Chain → ℕ → Type 0) → Ends P → AtSome c m s P → ⊥) → sliceNumber c m s ≡ firstOf (feedRules c (length m) noRules) more
       → Table (sliceNumber c m s) (sliceTable c m s) more
   none-table h e =
       rw e
-      (table (openRules c (length m) noRules) (sliceTable c m s) more tt
+      (table (feedRules c (length m) noRules) (sliceTable c m s) more tt
       (before-run
       (row (t-false (h Five five-ends))
       (row (t-false (h Eight eight-ends))
@@ -221,13 +211,13 @@ module _ (c : Chain) (m s : List ℕ) where
       (row (t-false (h Accepts accepts-ends))
       end)))))))))))
 
-  end-table : (z : openNumber c (length m) ≡ done) (k : ℕ) → k < length s → sliceNumber c m (take k s) ≡ more → sliceNumber c m (take (suc k) s) ≢ more
+  end-table : (z : feedNumber c (length m) ≡ done) (k : ℕ) → k < length s → sliceNumber c m (take k s) ≡ more → sliceNumber c m (take (suc k) s) ≢ more
       → Table (sliceNumber c m s) (sliceTable c m s) more
   end-table z k l h n =
       let d = sliceOf c m (take k s) .chain in
       let b = getD s k 0 in
       rw number
-      (table (openRules c (length m) (byteRules d b)) (sliceTable c m s) more tt
+      (table (feedRules c (length m) (byteRules d b)) (sliceTable c m s) more tt
       (before-run
       (same-alike (own-same d b)
       (like (at-end c m s z Five five-ends k l h n)
@@ -241,38 +231,38 @@ module _ (c : Chain) (m s : List ℕ) where
       (like (at-end c m s z Accepts accepts-ends k l h n)
       same))))))))))))
     where
-      number : sliceNumber c m s ≡ firstOf (openRules c (length m) (byteRules (sliceOf c m (take k s) .chain) (getD s k 0))) more
+      number : sliceNumber c m s ≡ firstOf (feedRules c (length m) (byteRules (sliceOf c m (take k s) .chain) (getD s k 0))) more
       number =
           ap (λ (f : Fed). f .answer .number) (over-at c m s z k n)
           ∙ at-byte c m s z k l h
           ∙ own-number (sliceOf c m (take k s) .chain) (getD s k 0)
-          ∙ sym (open-passes c (length m) (byteRules (sliceOf c m (take k s) .chain) (getD s k 0)) more z)
+          ∙ sym (feed-passes c (length m) (byteRules (sliceOf c m (take k s) .chain) (getD s k 0)) more z)
 
   pub slice-table : Table (sliceOf c m s .answer .number) (sliceTable c m s) more
   slice-table =
-      by-test (eqb (openNumber c (length m)) done)
+      by-test (eqb (feedNumber c (length m)) done)
       (λ e.
-      let z = eqb-true (openNumber c (length m)) done e in
+      let z = eqb-true (feedNumber c (length m)) done e in
       ⊎-elim
       (λ h.
       let g : sliceNumber c m s ≡ more = ap (sliceNumber c m) (sym (take-length s)) ∙ h in
-      none-table (λ P ends. never c m s z P ends g) (g ∙ sym (open-passes c (length m) noRules more z)))
+      none-table (λ P ends. never c m s z P ends g) (g ∙ sym (feed-passes c (length m) noRules more z)))
       (λ x. end-table z (x .0) (x .1) (x .2) (x .3))
       (turn (λ (k : ℕ). sliceNumber c m (take k s)) (nothing z) (length s)))
       (λ e.
-      let z = eqb-false (openNumber c (length m)) done e in
-      none-table (λ P ends a. open-not-more c (length m) (sym (slice-off c m (take (a .k) s) z) ∙ a .before))
-      (slice-off c m s z ∙ sym (open-gives c (length m) noRules more z)))
+      let z = eqb-false (feedNumber c (length m)) done e in
+      none-table (λ P ends a. feed-never-more c (length m) (sym (slice-off c m (take (a .k) s) z) ∙ a .before))
+      (slice-off c m s z ∙ sym (feed-gives c (length m) noRules more z)))
     where
-      nothing : openNumber c (length m) ≡ done → sliceNumber c m [] ≡ more
+      nothing : feedNumber c (length m) ≡ done → sliceNumber c m [] ≡ more
       nothing z = slice-on c m [] z ∙ run-none c m
 
 -- ---- byte by byte
 
-pub open-of : (c : Chain) (m xs : List ℕ) → sliceNumber c m xs ≡ more → openNumber c (length m) ≡ done
+pub open-of : (c : Chain) (m xs : List ℕ) → sliceNumber c m xs ≡ more → feedNumber c (length m) ≡ done
 open-of c m xs h =
-    by-test (eqb (openNumber c (length m)) done) (λ e. eqb-true (openNumber c (length m)) done e)
-    (λ e. absurd (open-not-more c (length m) (sym (slice-off c m xs (eqb-false (openNumber c (length m)) done e)) ∙ h)))
+    by-test (eqb (feedNumber c (length m)) done) (λ e. eqb-true (feedNumber c (length m)) done e)
+    (λ e. absurd (feed-never-more c (length m) (sym (slice-off c m xs (eqb-false (feedNumber c (length m)) done e)) ∙ h)))
 
 module _ (c : Chain) (m s : List ℕ) (k : ℕ) (l : k < length s) (h : sliceNumber c m (take k s) ≡ more) where
   -- where k bytes gave 16, byte k has the table of its own numbers

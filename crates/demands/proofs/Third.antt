@@ -10,7 +10,7 @@ use Rattle.chain.specs.declared.Chain.{Chain}
 use Rattle.chain.specs.declared.Made.{Made}
 use Rattle.chain.specs.Paper.{closed, writing, done, more}
 use Rattle.chain.specs.Set.{with·place, closedPlace}
-use Rattle.chain.specs.State.{stateNumber, openNumber}
+use Rattle.chain.specs.State.{stateNumber, feedNumber}
 use Rattle.machine.specs.Run.{Run, run, runOf}
 use Rattle.machine.specs.Calls.{openedPlace, answered, fedOf, sliceOf, sliceMemory}
 use Rattle.demands.specs.Grammar.{Sent, bytesOf, Bytes}
@@ -39,7 +39,7 @@ over r =
       memory = r .memory;
     }
 
-module _ (closing : Closing) (s : Chain) (m bs : List ℕ) (h : openNumber s (length m) ≡ done) where
+module _ (closing : Closing) (s : Chain) (m bs : List ℕ) (h : feedNumber s (length m) ≡ done) where
   slice-going : runOf (run s m more) bs .number ≡ more → ours closing .slice s m bs ≡ going (runOf (run s m more) bs)
   unfolding sliceOf sliceMemory fedOf
   slice-going e = rw (h, e)
@@ -76,7 +76,7 @@ module _ (closing : Closing) (c : Chain) (m : List ℕ) (mode : ℕ) (h : stateN
   load-is : (bs : List ℕ) → load (ours closing) mode c m bs ≡ ours closing .slice (begun c mode) m bs
   load-is bs = ap (λ (x : Made). ours closing .slice (x .chain) m bs) starts
 
-  begun-sound : openNumber (begun c mode) (length m) ≡ done
+  begun-sound : feedNumber (begun c mode) (length m) ≡ done
   begun-sound = opened-sound c (length m) mode writing h k
 
   -- a stream that is accepted, over any chain with no run open
@@ -99,7 +99,7 @@ module _ (closing : Closing) (c : Chain) (m : List ℕ) (mode : ℕ) (h : stateN
 
 module _ (closing : Closing) (given : Given closing) (c : Chain) (m : List ℕ) (mode : ℕ) (bs : List ℕ)
     (idle : Idle c m) (k : Mode mode) (small : Bytes bs) (w : Whole (ours closing) mode bs c m) where
-  o-sound : openNumber (begun c mode) (length m) ≡ done
+  o-sound : feedNumber (begun c mode) (length m) ≡ done
   o-sound = begun-sound closing c m mode (idle .sound) (idle .closed-place) k
 
   all-taken : runOf (run (begun c mode) m more) bs .chain .place .taken ≡ length bs

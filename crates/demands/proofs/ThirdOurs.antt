@@ -23,6 +23,7 @@ use Rattle.demands.specs.Grammar.{Bytes}
 use Rattle.demands.specs.Loader.{AfterSlice, Idle, Mode}
 use Rattle.demands.specs.Demand2.{slices, joined}
 use Rattle.demands.specs.Demand3.{meant, offered, load, Stopped, Demand3}
+use Rattle.chain.proofs.Sound.{feed-is-open}
 use Rattle.demands.specs.Ours.{ours}
 use Rattle.demands.proofs.SecondA.{slices-join, open-front, bytes-front}
 use Rattle.demands.proofs.Opened.{opened-sound, start-done}
@@ -39,12 +40,12 @@ offers s m out e = rw (eq-eqb (writtenNumber s m (length out)) done e) (take-app
 
 shuts : (s : Chain) (m : List ℕ) → Open s m → Shuts s m (closingBytes s m)
 shuts s m o =
-    let c = closes s m (o .kinds) (o .sound) in
+    let c = closes s m (o .kinds) (feed-is-open s (length m) (o .sound)) in
     record { ends = λ e. c .over (sym (c .number) ∙ e); late = c .late; cells = c .memory; regs = c .registers }
 
 room : (s : Chain) (m out : List ℕ) → Open s m → sizeHere s + 3 ≤ length out → ours .closing s m out .written .number ≡ done
 unfolding closingOf
-room s m out o e = room-enough s m (length out) (o .kinds) (o .sound) e
+room s m out o e = room-enough s m (length out) (o .kinds) (feed-is-open s (length m) (o .sound)) e
 
 given : Given (ours .closing)
 given =

@@ -9,7 +9,7 @@ use Rattle.chain.specs.Paper.{preamble, postamble, at·preamble, at·second, at
 use Rattle.machine.specs.Byte.{sizeHere, withLow, nextDevice}
 use Rattle.machine.specs.Calls.{sliceOf}
 use Rattle.demands.specs.Formed.{BadChain, IllFormed, Sets}
-use Rattle.demands.specs.Table.{Claim, _when_, openTable}
+use Rattle.demands.specs.Table.{Claim, _when_, feedTable}
 
 -- the byte a is awaited
 abbrev pub Awaits : Chain → ℕ → Type 0
@@ -78,7 +78,7 @@ ownTable c b =
 
 -- 1, 17, 4, then the byte's own
 abbrev pub byteTable : Chain → List ℕ → ℕ → List Claim
-byteTable c m b = openTable c m (ownTable c b)
+byteTable c m b = feedTable c m (ownTable c b)
 
 -- ---- a slice
 
@@ -94,7 +94,7 @@ pub record AtSome (c : Chain) (m s : List ℕ) (P : Chain → ℕ → Type 0) : 
 
 abbrev pub sliceTable : Chain → List ℕ → List ℕ → List Claim
 sliceTable c m s =
-    openTable c m
+    feedTable c m
     ((no-preamble when AtSome c m s Five)
     ∷ (bad-check-byte when AtSome c m s Eight)
     ∷ (ends-here when AtSome c m s Nine)

@@ -52,6 +52,10 @@ stateTable c m claims =
 abbrev pub openTable : Chain → List ℕ → List Claim → List Claim
 openTable c m claims = stateTable c m ((no-run when c .place .running ≡ closed) ∷ claims)
 
+-- a call that feeds bytes: the same
+abbrev pub feedTable : Chain → List ℕ → List Claim → List Claim
+feedTable c m claims = openTable c m claims
+
 -- a mode not 1 to 6
 abbrev pub NoMode : ℕ → Type 0
 NoMode mode = Between first-mode two-preambles mode → ⊥

@@ -9,17 +9,16 @@ use Rattle.chain.specs.declared.Chain.{Chain}
 use Rattle.chain.specs.Paper.{at·address, at·data, writing, two-preambles, done, barred, more, B4}
 use Rattle.chain.specs.Rules.{pick}
 use Rattle.chain.specs.Kinds.{baseOf}
-use Rattle.chain.specs.Set.{with·place}
-use Rattle.chain.specs.State.{openNumber}
+use Rattle.chain.specs.Set.{with·check, with·place}
+use Rattle.chain.specs.State.{feedNumber}
 use Rattle.machine.specs.Byte.{awaits}
 use Rattle.machine.specs.Run.{writes, ended, Run, run, stepOf}
 use Rattle.machine.specs.Calls.{answered, fedOf}
-use Rattle.demands.specs.Loader.{Loader, AfterSlice}
+use Rattle.demands.specs.Loader.{Loader, AfterSlice, with·slice, with·closing, with·list}
 use Rattle.demands.specs.Ours.{ours}
 
 abbrev pub withSlice : (Chain → List ℕ → List ℕ → AfterSlice) → Loader
-withSlice f =
-    record { start = ours .start; slice = f; closing = ours .closing; write = ours .write; list = ours .list; hunt = ours .hunt }
+withSlice f = with·slice ours f
 
 -- answers n, t and w whatever it is given, and does nothing: with n not 0 it refuses all
 abbrev pub constant : ℕ → ℕ → ℕ → Loader
@@ -69,7 +68,7 @@ eager =
     (λ c m s.
     record {
       fed = ours .slice c m s .fed;
-      memory = pick (eqb (openNumber c (length m)) done) (eagerRun (run c m more) s .memory) m;
+      memory = pick (eqb (feedNumber c (length m)) done) (eagerRun (run c m more) s .memory) m;
     })
 
 -- ---- wrong readings of document 01
@@ -93,22 +92,7 @@ barring =
 -- a check that writes: it answers as ours, and stores what a write at the same place would. (A check with B3 set is no case of demand 2:
 -- number 7 refuses it)
 abbrev pub writing-chain : Chain → Chain
-writing-chain c =
-    with·place c
-    (record {
-      running = c .place .running;
-      mode = c .place .mode;
-      check = writing;
-      device = c .place .device;
-      awaited = c .place .awaited;
-      left = c .place .left;
-      control = c .place .control;
-      start = c .place .start;
-      end = c .place .end;
-      next = c .place .next;
-      taken = c .place .taken;
-      mismatches = c .place .mismatches;
-    })
+writing-chain c = with·place c (with·check (c .place) writing)
 
 abbrev pub checkWrites : Loader
 checkWrites = withSlice (λ c m s. record { fed = ours .slice c m s .fed; memory = ours .slice (writing-chain c) m s .memory })
@@ -116,17 +100,10 @@ checkWrites = withSlice (λ c m s. record { fed = ours .slice c m s .fed; memory
 -- closing one byte short
 abbrev pub shortClosing : Loader
 shortClosing =
-    record {
-      start = ours .start;
-      slice = ours .slice;
-      closing =
-          λ c m out.
-          let w = ours .closing c m out in
-          record { written = record { number = w .written .number; length = w .written .length - 1 }; out = w .out };
-      write = ours .write;
-      list = ours .list;
-      hunt = ours .hunt;
-    }
+    with·closing ours
+    (λ c m out.
+    let w = ours .closing c m out in
+    record { written = record { number = w .written .number; length = w .written .length - 1 }; out = w .out })
 
 -- offsets from the stream's first byte, which in mode 6 is not the preamble before the control byte
 abbrev pub oneMore : List ℕ → List ℕ
@@ -135,19 +112,12 @@ oneMore (x ∷ xs) = (x + 1) ∷ oneMore xs
 
 abbrev pub offsetsFromFirst : Loader
 offsetsFromFirst =
+    with·list ours
+    (λ kind mode s starts ends offsets.
+    let a = ours .list kind mode s starts ends offsets in
     record {
-      start = ours .start;
-      slice = ours .slice;
-      closing = ours .closing;
-      write = ours .write;
-      list =
-          λ kind mode s starts ends offsets.
-          let a = ours .list kind mode s starts ends offsets in
-          record {
-            listed = a .listed;
-            starts = a .starts;
-            ends = a .ends;
-            offsets = pick (eqb mode two-preambles) (oneMore (a .offsets)) (a .offsets);
-          };
-      hunt = ours .hunt;
-    }
+      listed = a .listed;
+      starts = a .starts;
+      ends = a .ends;
+      offsets = pick (eqb mode two-preambles) (oneMore (a .offsets)) (a .offsets);
+    })

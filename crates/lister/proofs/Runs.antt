@@ -13,7 +13,7 @@ use Rattle.chain.proofs.ByCases.{by-test}
 use Rattle.chain.specs.declared.Chain.{Chain}
 use Rattle.chain.specs.Paper.{at·null, at·start, at·start-low, at·end, at·end-low, at·data, at·check, opened, writing, done, bad-start, bad-end, more}
 use Rattle.chain.specs.Rules.{pick}
-use Rattle.chain.specs.Set.{with·place}
+use Rattle.chain.specs.Set.{with·running, with·check, with·awaited, with·left, with·start, with·end, with·next, with·taken, with·mismatches, with·place}
 use Rattle.chain.specs.Kinds.{baseOf}
 use Rattle.machine.specs.Byte.{sizeHere, numberOf, advanceOf, passedOf}
 use Rattle.machine.specs.Run.{Run, run, addressOf, memoryOf, registersOf, missedOf, ended, stepOf, runOf}
@@ -97,21 +97,8 @@ module _ (m s : List ℕ) (cs : ℕ → Chain) (at : ℕ) where
 
 abbrev pub inWrite : Chain → ℕ → ℕ → ℕ → ℕ → ℕ → ℕ → Chain
 inWrite c awaited left start end next taken =
-    with·place c
-    (record {
-      running = opened;
-      mode = c .place .mode;
-      check = writing;
-      device = c .place .device;
-      awaited = awaited;
-      left = left;
-      control = c .place .control;
-      start = start;
-      end = end;
-      next = next;
-      taken = taken;
-      mismatches = 0;
-    })
+    let p = with·mismatches (with·check (with·running (c .place) opened) writing) 0 in
+    with·place c (with·taken (with·next (with·end (with·start (with·left (with·awaited p awaited) left) start) end) next) taken)
 
 -- n windows are left, and the byte at `at` is awaited: a null byte, or the check byte
 unfoldable pub waits : Chain → ℕ → ℕ → Chain

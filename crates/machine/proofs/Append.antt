@@ -8,10 +8,10 @@ use lib.ListN.{length}
 use Rattle.chain.specs.declared.Chain.{Chain}
 use Rattle.chain.specs.Paper.{most-devices, done, more}
 use Rattle.chain.specs.Rules.{pick}
-use Rattle.chain.specs.State.{openNumber}
+use Rattle.chain.specs.State.{feedNumber}
 use Rattle.chain.proofs.Bytes.{Bytes}
 use Rattle.chain.proofs.ByCases.{by-test}
-use Rattle.chain.proofs.Sound.{open-never-more}
+use Rattle.chain.proofs.Sound.{feed-never-more}
 use Rattle.machine.specs.declared.Fed.{Fed}
 use Rattle.machine.specs.Run.{Run, run, runOf}
 use Rattle.machine.specs.Calls.{fedOf, sliceOf, sliceMemory}
@@ -30,7 +30,7 @@ module _ (c : Chain) (m a b : List ℕ) where
   First = (sliceOf c m (a ++ b) ≡ sliceOf c m a) × (sliceMemory c m (a ++ b) ≡ sliceMemory c m a)
 
   -- the run after a, where the state takes slices
-  module _ (o : openNumber c (length m) ≡ done) where
+  module _ (o : feedNumber c (length m) ≡ done) where
     abbrev mid : Run
     mid = runOf (run c m more) a
 
@@ -58,19 +58,19 @@ module _ (c : Chain) (m a b : List ℕ) where
   -- where the answer to a is 16
   pub slice-more : Bytes a → length (c .registers) ≡ most-devices → sliceOf c m a .answer .number ≡ more → Both
   slice-more small eight n =
-      by-test (eqb (openNumber c (length m)) done)
-      (λ t. let o = eqb-true (openNumber c (length m)) done t in both o small eight (sym (mid-number o) ∙ n))
+      by-test (eqb (feedNumber c (length m)) done)
+      (λ t. let o = eqb-true (feedNumber c (length m)) done t in both o small eight (sym (mid-number o) ∙ n))
       (λ t.
-      let o = eqb-false (openNumber c (length m)) done t in
-      absurd (open-never-more c (length m) (sym (ap (λ (f : Fed). f .answer .number) (slice-refused c m a o .0)) ∙ n)))
+      let o = eqb-false (feedNumber c (length m)) done t in
+      absurd (feed-never-more c (length m) (sym (ap (λ (f : Fed). f .answer .number) (slice-refused c m a o .0)) ∙ n)))
 
   -- where it is not
   pub slice-over : (sliceOf c m a .answer .number ≡ more → ⊥) → First
   slice-over n =
-      by-test (eqb (openNumber c (length m)) done)
-      (λ t. let o = eqb-true (openNumber c (length m)) done t in first o (λ e. n (mid-number o ∙ e)))
+      by-test (eqb (feedNumber c (length m)) done)
+      (λ t. let o = eqb-true (feedNumber c (length m)) done t in first o (λ e. n (mid-number o ∙ e)))
       (λ t.
-      let o = eqb-false (openNumber c (length m)) done t in
+      let o = eqb-false (feedNumber c (length m)) done t in
       let whole = slice-refused c m (a ++ b) o in
       let one = slice-refused c m a o in
       (whole .0 ∙ sym (one .0), whole .1 ∙ sym (one .1)))

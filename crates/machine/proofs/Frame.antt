@@ -26,24 +26,6 @@ frame-pick : (p : Place) (t : Bool) (x y : Place) → Frame p x → Frame p y �
 frame-pick p true x y f g = f
 frame-pick p false x y f g = g
 
-abbrev Frames : Place → List (Row Place) → Type 0
-Frames p [] = Unit {0}
-Frames p ((n ⇒ q) ∷ rows) = Frame p q × Frames p rows
-
-frame-rows : (p : Place) (a : ℕ) (rows : List (Row Place)) → Frames p rows → Frame p (rowOf a rows p)
-frame-rows p a [] f = framed refl refl refl refl refl
-frame-rows p a ((n ⇒ q) ∷ rows) f = frame-pick p (eqb a n) q (rowOf a rows p) (f .0) (frame-rows p a rows (f .1))
-
-frame-passed : (p : Place) (n : ℕ) → Frame p (passedOf p n)
-unfolding passedOf
-frame-passed p n =
-    frame-pick p (leb (p .next + n) (p .end)) (with·next p (p .next + n))
-    (pick (ltb 1 (p .left)) (with·awaited (with·left (noWindow p) (p .left - 1)) at·null) (with·awaited (with·left (noWindow p) 0) at·check))
-    (framed refl refl refl refl refl)
-    (frame-pick p (ltb 1 (p .left)) (with·awaited (with·left (noWindow p) (p .left - 1)) at·null) (with·awaited (with·left (noWindow p) 0) at·check)
-    (framed refl refl refl refl refl)
-    (framed refl refl refl refl refl))
-
 pick-device : (t : Bool) (x y : Place) (d : ℕ) → x .device ≡ d → y .device ≡ d → pick t x y .device ≡ d
 pick-device true x y d a b = a
 pick-device false x y d a b = b
@@ -59,6 +41,5 @@ passed-device p n =
     (p .device) refl refl)
 
 pub advance-frame : (p : Place) (b : ℕ) → Frame p (advanceOf p b)
-unfolding advanceOf
-advance-frame p b = frame-rows p (p .awaited) (advanceRows p b)
-    (framed refl refl refl refl refl, (framed refl refl refl refl refl, (framed refl refl refl refl refl, (framed refl refl refl refl refl, (framed refl refl refl refl refl, (framed refl refl refl refl refl, (frame-pick p (eqb b no-windows) (with·awaited p at·check) (with·awaited (with·left p (255 - b)) at·null) (framed refl refl refl refl refl) (framed refl refl refl refl refl), (framed refl refl refl refl refl, (framed refl refl refl refl refl, (framed refl refl refl refl refl, (framed refl refl refl refl refl, (framed refl refl refl refl refl, (frame-passed p 1, (framed refl refl refl refl refl, tt))))))))))))))
+unfolding advanceOf passedOf
+advance-frame p b = search (frame-pick, framed) depth 40 fits 5000

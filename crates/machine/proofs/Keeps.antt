@@ -10,11 +10,11 @@ use Rattle.chain.specs.declared.Chain.{Chain}
 use Rattle.chain.specs.declared.Place.{Place}
 use Rattle.chain.specs.Paper.{writing, most-devices, done, more}
 use Rattle.chain.specs.Set.{with·place, closedPlace}
-use Rattle.chain.specs.State.{wellFormed, stateNumber, openNumber}
+use Rattle.chain.specs.State.{wellFormed, stateNumber, feedNumber}
 use Rattle.chain.proofs.Bytes.{Bytes}
 use Rattle.chain.proofs.ByCases.{by-test}
 use Rattle.chain.proofs.WellFormed.{formed-of}
-use Rattle.chain.proofs.Sound.{Sound, sound-of, of-sound, sound-closed}
+use Rattle.chain.proofs.Sound.{Sound, feed-sound, sound-feed, sound-closed}
 use Rattle.machine.specs.Byte.{numberOf}
 use Rattle.machine.specs.Run.{missedOf, registersOf, counted, Run, run, wentOn, stepOf, runOf}
 use Rattle.machine.proofs.Runs.{step-went, step-number, After, run-by, memory-length, registers-length}
@@ -82,9 +82,9 @@ went-sound c m b len small eight n s =
     }
 
 -- a run that goes on leaves a state that takes the next slice; one that is over, its place closed, a state that every call takes
-module _ (c : Chain) (m bs : List ℕ) (small : Bytes bs) (eight : length (c .registers) ≡ most-devices) (h : openNumber c (length m) ≡ done) where
+module _ (c : Chain) (m bs : List ℕ) (small : Bytes bs) (eight : length (c .registers) ≡ most-devices) (h : feedNumber c (length m) ≡ done) where
   abbrev Open : Chain → List ℕ → Type 0
-  Open d k = (length (d .registers) ≡ most-devices) × (openNumber d (length k) ≡ done)
+  Open d k = (length (d .registers) ≡ most-devices) × (feedNumber d (length k) ≡ done)
 
   abbrev Closed : Run → Type 0
   Closed r = stateNumber (with·place (r .chain) closedPlace) (length (r .memory)) ≡ done
@@ -94,12 +94,12 @@ module _ (c : Chain) (m bs : List ℕ) (small : Bytes bs) (eight : length (c .re
       run-by Open Closed
       (λ d k b small n s. (
         registers-length d k b ∙ s .0,
-        rw (memory-length d k b) (of-sound (wentOn d k b) (length k) (went-sound d k b (length k) small (s .0) n (sound-of d (length k) (s .1)))),
+        rw (memory-length d k b) (sound-feed (wentOn d k b) (length k) (went-sound d k b (length k) small (s .0) n (feed-sound d (length k) (s .1)))),
       ))
-      (λ d k b n s. sound-closed d (length k) (sound-of d (length k) (s .1))) bs small c m (eight, h)
+      (λ d k b n s. sound-closed d (length k) (feed-sound d (length k) (s .1))) bs small c m (eight, h)
 
   pub run-open : runOf (run c m more) bs .number ≡ more
-      → openNumber (runOf (run c m more) bs .chain) (length (runOf (run c m more) bs .memory)) ≡ done
+      → feedNumber (runOf (run c m more) bs .chain) (length (runOf (run c m more) bs .memory)) ≡ done
   run-open n = run-after .going n .1
 
   pub run-closed : (runOf (run c m more) bs .number ≡ more → ⊥)

@@ -8,27 +8,27 @@ use lib.ListN.{length}
 use Rattle.chain.specs.declared.Chain.{Chain}
 use Rattle.chain.specs.Paper.{most-devices, done, more}
 use Rattle.chain.specs.Set.{with·place, closedPlace}
-use Rattle.chain.specs.State.{stateNumber, openNumber}
+use Rattle.chain.specs.State.{stateNumber, feedNumber}
 use Rattle.chain.proofs.Bytes.{Bytes}
 use Rattle.chain.proofs.ByCases.{by-test, either-way}
-use Rattle.chain.proofs.Sound.{open-is-taken, open-never-more}
+use Rattle.chain.proofs.Sound.{feed-is-taken, feed-never-more}
 use Rattle.machine.specs.declared.Fed.{Fed}
 use Rattle.machine.specs.Run.{Run, run, runOf}
-use Rattle.machine.specs.Calls.{answered, fedOf, sliceOf, sliceMemory}
+use Rattle.machine.specs.Calls.{unfed, fedOf, sliceOf, sliceMemory}
 use Rattle.machine.proofs.Runs.{Lasts, run-lasts}
 use Rattle.machine.proofs.Keeps.{run-open, run-closed}
 
 module _ (c : Chain) (m s : List ℕ) where
-  pub slice-runs : openNumber c (length m) ≡ done
+  pub slice-runs : feedNumber c (length m) ≡ done
       → (sliceOf c m s ≡ fedOf (runOf (run c m more) s)) × (sliceMemory c m s ≡ runOf (run c m more) s .memory)
   unfolding sliceOf sliceMemory
   slice-runs o = (rw o, rw o)
 
-  pub slice-refused : (openNumber c (length m) ≡ done → ⊥)
-      → (sliceOf c m s ≡ answered c (openNumber c (length m)) 0 0) × (sliceMemory c m s ≡ m)
+  pub slice-refused : (feedNumber c (length m) ≡ done → ⊥)
+      → (sliceOf c m s ≡ unfed c (feedNumber c (length m))) × (sliceMemory c m s ≡ m)
   unfolding sliceOf sliceMemory
   slice-refused o =
-      let e = ne-eqb (openNumber c (length m)) done o in
+      let e = ne-eqb (feedNumber c (length m)) done o in
       (rw e, rw e)
 
 -- a run that goes on is answered as it is, one that is over with its place closed
@@ -54,7 +54,7 @@ module _ (c : Chain) (m s : List ℕ) where
   unfolding sliceOf sliceMemory fedOf
   slice-lasts =
       let l = run-lasts s (run c m more) in
-      by-test (eqb (openNumber c (length m)) done)
+      by-test (eqb (feedNumber c (length m)) done)
       (λ e.
       rw e
       (either-way (λ (d : Chain). Lasts (run c m more) (run d (fed .memory) more)) (eqb (fed .number) more) (fed .chain) (with·place (fed .chain) closedPlace)
@@ -64,33 +64,33 @@ module _ (c : Chain) (m s : List ℕ) where
 
   module _ (small : Bytes s) (eight : length (c .registers) ≡ most-devices) where
     -- a state that takes the next slice
-    pub slice-open : sliceOf c m s .answer .number ≡ more → openNumber (sliceOf c m s .chain) (length (sliceMemory c m s)) ≡ done
+    pub slice-open : sliceOf c m s .answer .number ≡ more → feedNumber (sliceOf c m s .chain) (length (sliceMemory c m s)) ≡ done
     slice-open n =
-        by-test (eqb (openNumber c (length m)) done)
+        by-test (eqb (feedNumber c (length m)) done)
         (λ t.
-        let o = eqb-true (openNumber c (length m)) done t in
+        let o = eqb-true (feedNumber c (length m)) done t in
         let r = slice-runs c m s o in
         let e : fed .number ≡ more = sym (fed-number fed) ∙ ap (λ (f : Fed). f .answer .number) (sym (r .0)) ∙ n in
         rw (r .0, r .1, fed-more fed e) (run-open c m s small eight o e))
         (λ t.
-        let o = eqb-false (openNumber c (length m)) done t in
-        absurd (open-never-more c (length m) (ap (λ (f : Fed). f .answer .number) (sym (slice-refused c m s o .0)) ∙ n)))
+        let o = eqb-false (feedNumber c (length m)) done t in
+        absurd (feed-never-more c (length m) (ap (λ (f : Fed). f .answer .number) (sym (slice-refused c m s o .0)) ∙ n)))
 
     -- a state that every call takes, if it was one before
     pub slice-taken : stateNumber c (length m) ≡ done → stateNumber (sliceOf c m s .chain) (length (sliceMemory c m s)) ≡ done
     slice-taken h =
-        by-test (eqb (openNumber c (length m)) done)
+        by-test (eqb (feedNumber c (length m)) done)
         (λ t.
-        let o = eqb-true (openNumber c (length m)) done t in
+        let o = eqb-true (feedNumber c (length m)) done t in
         let r = slice-runs c m s o in
         rw (r .0, r .1)
         (by-test (eqb (fed .number) more)
         (λ u.
         let e = eqb-true (fed .number) more u in
-        rw (fed-more fed e) (open-is-taken (fed .chain) (length (fed .memory)) (run-open c m s small eight o e)))
+        rw (fed-more fed e) (feed-is-taken (fed .chain) (length (fed .memory)) (run-open c m s small eight o e)))
         (λ u.
         let e = eqb-false (fed .number) more u in
         rw (fed-over fed e) (run-closed c m s small eight o e))))
         (λ t.
-        let r = slice-refused c m s (eqb-false (openNumber c (length m)) done t) in
+        let r = slice-refused c m s (eqb-false (feedNumber c (length m)) done t) in
         rw (r .0, r .1) h)

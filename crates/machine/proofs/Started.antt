@@ -3,15 +3,16 @@ use Prim.Native.Nat.{ℕ, _≤_}
 use mathlib.Core.Bool.{true}
 use mathlib.Core.Path.{_≡_, refl}
 use borrow.Author.Tests.{lt-ltb, not-false}
+use mathlib.Core.List.{[]}
 use lib.Dec.{eqb}
 use Rattle.chain.specs.declared.Chain.{Chain}
 use Rattle.chain.specs.Paper.{writing, first-mode, two-preambles, done}
 use Rattle.chain.specs.Rules.{from}
 use Rattle.chain.specs.Set.{with·place}
-use Rattle.chain.specs.State.{unusedZero, wellFormed, openNumber}
+use Rattle.chain.specs.State.{unusedZero, wellFormed, stateRules, stateNumber, feedNumber}
 use Rattle.chain.proofs.ByCases.{by-test}
-use Rattle.chain.proofs.FirstOf.{first-none}
-use Rattle.chain.proofs.Sound.{of-sound, fits-of, unused-of}
+use Rattle.chain.proofs.FirstOf.{first-none, none-first}
+use Rattle.chain.proofs.Sound.{sound-feed, fits-of, unused-of}
 use Rattle.machine.specs.Calls.{startRules, startNumber, openedPlace, startOf}
 
 opened-formed : (c : Chain) (mode check : ℕ) → 1 ≤ c .count → unusedZero (c .registers) (c .count) ≡ true → from first-mode two-preambles mode ≡ true
@@ -20,14 +21,21 @@ unfolding wellFormed
 opened-formed c mode check some u m =
     by-test (eqb check writing) (λ e. rw (e, m, lt-ltb 0 (c .count) some, u)) (λ e. rw (e, m, lt-ltb 0 (c .count) some, u))
 
-pub start-opens : (c : Chain) (len mode check : ℕ) → startNumber c len mode ≡ done
-    → openNumber (startOf c len mode check .chain) len ≡ done
-unfolding startNumber startOf wellFormed
-start-opens c len mode check h =
-    let r = first-none (startRules c len mode) done tt h in
+-- a run opened in a state that every call takes takes bytes
+pub opened-feeds : (c : Chain) (len mode check : ℕ) → stateNumber c len ≡ done → from first-mode two-preambles mode ≡ true
+    → feedNumber (with·place c (openedPlace mode check)) len ≡ done
+unfolding stateNumber wellFormed
+opened-feeds c len mode check h m =
+    let r = first-none (stateRules c len []) done tt h in
     let f = fits-of (c .count) (c .kinds) len (r .0) in
     let u = unused-of c (r .1 .0) in
+    sound-feed (with·place c (openedPlace mode check)) len
+    (record { fits = f; kinds = u .0; registers = u .1; running = refl; formed = opened-formed c mode check (f .some) (u .1) m })
+
+pub start-opens : (c : Chain) (len mode check : ℕ) → startNumber c len mode ≡ done
+    → feedNumber (startOf c len mode check .chain) len ≡ done
+unfolding startNumber startOf stateNumber
+start-opens c len mode check h =
+    let r = first-none (startRules c len mode) done tt h in
     let m : from first-mode two-preambles mode ≡ true = not-false (from first-mode two-preambles mode) (r .1 .1 .0) in
-    rw h
-    (of-sound (with·place c (openedPlace mode check)) len
-    (record { fits = f; kinds = u .0; registers = u .1; running = refl; formed = opened-formed c mode check (f .some) (u .1) m }))
+    rw h (opened-feeds c len mode check (none-first (stateRules c len []) done (r .0, (r .1 .0, tt))) m)

@@ -10,8 +10,8 @@ use Rattle.chain.specs.declared.Place.{Place}
 use Rattle.chain.specs.declared.Made.{Made}
 use Rattle.chain.specs.Paper.{at·preamble, opened, writing, checking, first-mode, two-preambles, done, bad-mode, run-open, more}
 use Rattle.chain.specs.Rules.{pick, Rule, _gives_, firstOf, from}
-use Rattle.chain.specs.Set.{with·place, closedPlace}
-use Rattle.chain.specs.State.{stateRules, openNumber}
+use Rattle.chain.specs.Set.{with·running, with·mode, with·check, with·awaited, with·place, closedPlace}
+use Rattle.chain.specs.State.{stateRules, feedNumber}
 use Rattle.machine.specs.declared.Fed.{Fed}
 use Rattle.machine.specs.Run.{Run, run, runOf}
 
@@ -29,20 +29,7 @@ startNumber c len mode = firstOf (startRules c len mode) done
 -- a run awaits its first byte, both counts zero; check 0 writes, all else checks
 abbrev pub openedPlace : ℕ → ℕ → Place
 openedPlace mode check =
-    record {
-      running = opened;
-      mode = mode;
-      check = pick (eqb check writing) writing checking;
-      device = 0;
-      awaited = at·preamble;
-      left = 0;
-      control = 0;
-      start = 0;
-      end = 0;
-      next = 0;
-      taken = 0;
-      mismatches = 0;
-    }
+    with·awaited (with·check (with·mode (with·running closedPlace opened) mode) (pick (eqb check writing) writing checking)) at·preamble
 
 unfoldable pub startOf : Chain → ℕ → ℕ → ℕ → Made
 startOf c len mode check =
@@ -60,13 +47,17 @@ fedOf r =
     answered (pick (eqb (r .number) more) (r .chain) (with·place (r .chain) closedPlace)) (r .number) (r .chain .place .taken)
     (r .chain .place .mismatches)
 
+-- a state that takes no byte is handed back as lent
+abbrev pub unfed : Chain → ℕ → Fed
+unfed c n = answered c n 0 0
+
 -- a slice feeds an open run; where 1, 17 or 4 is given the counts are 0 and 0 and all is as lent
 unfoldable pub sliceOf : Chain → List ℕ → List ℕ → Fed
 sliceOf c m s =
-    pick (eqb (openNumber c (length m)) done) (fedOf (runOf (run c m more) s)) (answered c (openNumber c (length m)) 0 0)
+    pick (eqb (feedNumber c (length m)) done) (fedOf (runOf (run c m more) s)) (unfed c (feedNumber c (length m)))
 
 unfoldable pub sliceMemory : Chain → List ℕ → List ℕ → List ℕ
-sliceMemory c m s = pick (eqb (openNumber c (length m)) done) (runOf (run c m more) s .memory) m
+sliceMemory c m s = pick (eqb (feedNumber c (length m)) done) (runOf (run c m more) s .memory) m
 
 -- what a reader may hold each call to: r is the answer, m′ the memory left
 pub record Start (c : Chain) (m : List ℕ) (mode check : ℕ) (r : Made) : Type 0 where

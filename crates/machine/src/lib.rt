@@ -7,15 +7,15 @@ use crate::run::feed;
 use crate::run::finish;
 use chain::Chain;
 use chain::Made;
-use chain::Place;
+use chain::closed_place;
 use chain::paper::*;
-use chain::state::open_number;
+use chain::state::feed_number;
 use chain::state::state_number;
 ghost use mathlib.Core.Path.{_≡_};
 ghost use lib.Dec.{eqb};
 ghost use Rattle.chain.specs.Paper.{writing, checking};
 ghost use Rattle.chain.specs.Rules.{pick};
-ghost use Rattle.machine.specs.Calls.{Start, Slice, Byte};
+ghost use Rattle.machine.specs.Calls.{Start, Slice, Byte, unfed};
 
 // The number, and the run's bytes taken and mismatches so far.
 #[repr(C)]
@@ -66,20 +66,11 @@ pub fn start(c: Chain, mem: &[u8], mode: u8, check: u8) -> Made
     }
     let mut d = c;
     let t = task(check);
-    let p = Place {
-        running: OPENED,
-        mode: mode,
-        check: t,
-        device: 0,
-        awaited: AT_PREAMBLE,
-        left: 0,
-        control: 0,
-        start: 0,
-        end: 0,
-        next: 0,
-        taken: 0,
-        mismatches: 0,
-    };
+    let mut p = closed_place();
+    p.running = OPENED;
+    p.mode = mode;
+    p.check = t;
+    p.awaited = AT_PREAMBLE;
     d.place = p;
     Made {
         chain: d,
@@ -87,21 +78,28 @@ pub fn start(c: Chain, mem: &[u8], mode: u8, check: u8) -> Made
     }
 }
 
-// Feeds an open run and stops at its end; later bytes are not looked at.
-pub fn slice(c: Chain, mem: &mut [u8], s: &[u8]) -> Fed
-    ensures { λ r. ⌜ Slice c (now (mem .entry)) (now (s .entry)) r (now (mem .exit)) ⌝ }
+// A state that takes no byte: all as lent.
+fn not_fed(c: Chain, n: u8) -> Fed
+    ensures { λ r. ⌜ r ≡ unfed c n ⌝ }
 {
-    let n = open_number(c, mem.len());
-    if n == DONE {
-        let r = feed(c, mem, s);
-        return finish(r, mem);
-    }
     let answer = Answer {
         number: n,
         taken: 0,
         mismatches: 0,
     };
     Fed { chain: c, answer }
+}
+
+// Feeds an open run and stops at its end; later bytes are not looked at.
+pub fn slice(c: Chain, mem: &mut [u8], s: &[u8]) -> Fed
+    ensures { λ r. ⌜ Slice c (now (mem .entry)) (now (s .entry)) r (now (mem .exit)) ⌝ }
+{
+    let n = feed_number(c, mem.len());
+    if n == DONE {
+        let r = feed(c, mem, s);
+        return finish(r, mem);
+    }
+    not_fed(c, n)
 }
 
 // One byte: a slice of one, so that the step has one place where it is called.

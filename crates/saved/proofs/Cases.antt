@@ -4,7 +4,7 @@ use mathlib.Core.Path.{_≡_, refl}
 use mathlib.Core.List.{List, [], _∷_, _++_}
 use lib.ListN.{replicate}
 use Rattle.chain.specs.declared.Place.{Place}
-use Rattle.saved.specs.Layout.{savedBytes, heldFields, placeOf, registersOf}
+use Rattle.saved.specs.Layout.{frontBytes, savedBytes, heldFields, placeOf, registersOf}
 
 -- stream A of document 01, stopped after 13 of its 15 bytes
 abbrev stopped : Place
@@ -13,7 +13,7 @@ stopped =
 
 pub stopped-bytes : savedBytes (replicate 8 0) stopped
     ≡ 0x12 ∷ 0x18 ∷ 0x01 ∷ 0x00 ∷ 0x00 ∷ 0x09 ∷ 0x00 ∷ 0x0b ∷ 0x00 ∷ 0x0b ∷ 0x00 ∷ 0x00 ∷ 0x00 ∷ 0x0d ∷ 0x00 ∷ 0x00 ∷ 0x00 ∷ 0x00 ∷ replicate 9 0
-unfolding savedBytes
+unfolding frontBytes
 stopped-bytes = refl
 
 -- a check in the third device, no byte of which is like another's
@@ -32,7 +32,7 @@ fullBytes =
     ∷ (registers ++ (0xe7 ∷ []))
 
 pub full-bytes : savedBytes registers full ≡ fullBytes
-unfolding savedBytes
+unfolding frontBytes
 full-bytes = refl
 
 pub full-place : placeOf (heldFields fullBytes) ≡ full

@@ -15,10 +15,9 @@ use Rattle.chain.specs.declared.Made.{Made}
 use Rattle.chain.specs.declared.Written.{Written}
 use Rattle.chain.specs.Paper.{closed, opened, done, ill-formed}
 use Rattle.chain.specs.Rules.{allOf}
-use Rattle.chain.specs.Kinds.{sizeOf}
-use Rattle.chain.specs.State.{badChain, illFormed, formed, wellFormed, unusedZero, stateNumber, openNumber}
+use Rattle.chain.specs.State.{badChain, illFormed, wellFormed, stateNumber, openNumber}
 use Rattle.saved.specs.Fields.{packed, recut, bytes}
-use Rattle.saved.specs.Layout.{saved-length, saved-form, widths, values, savedBytes, heldFields, placeOf, registersOf, marks, wellSaved}
+use Rattle.saved.specs.Layout.{saved-length, saved-form, widths, values, frontBytes, savedBytes, heldFields, placeOf, registersOf, marks, wellSaved}
 use Rattle.saved.specs.Calls.{saveRules, saveNumber, saveOf, saveOutput, pickUpRules, pickUpNumber, pickedUp, pickUpOf, Save, PickUp}
 use Rattle.saved.proofs.Packing.{Fit, fields-fit, through}
 use Rattle.saved.proofs.Regroup.{elems, elems-is}
@@ -57,13 +56,13 @@ open-done c len a b e = rw (a, b, e)
 -- ---- the fields, through the bytes and back
 
 length-saved : (g : List ℕ) (p : Place) → length (savedBytes g p) ≡ saved-length
-unfolding savedBytes
+unfolding frontBytes
 length-saved g p = refl
 
-module _ (g : List ℕ) (p : Place) (f : Fit widths (values g p)) (eight : length g ≡ 8) where
-  fields-back : heldFields (savedBytes g p) ≡ values g p
-  unfolding heldFields savedBytes
-  fields-back = through (bytes saved-length) widths (values g p) f refl
+module _ (g : List ℕ) (p : Place) (f : Fit widths (values saved-form g p)) (eight : length g ≡ 8) where
+  fields-back : heldFields (savedBytes g p) ≡ values saved-form g p
+  unfolding heldFields frontBytes
+  fields-back = through (bytes saved-length) widths (values saved-form g p) f refl
 
   registers-back : g ≡ registersOf (heldFields (savedBytes g p))
   registers-back = sym (ap registersOf fields-back ∙ take-at g (p .control ∷ []) 8 eight)
@@ -94,7 +93,7 @@ module _ (g : List ℕ) (p : Place) (f : Fit widths (values g p)) (eight : lengt
 same-chain : (c d : Chain) (g : List ℕ) (p : Place) → d .count ≡ c .count → d .kinds ≡ c .kinds → wellFormed d g p ≡ wellFormed c g p
 unfolding wellFormed
 same-chain c d g p e f =
-    λ k. allOf (formed p (e k) (unusedZero g (e k)) (getD g (p .device) 0) (sizeOf (getD (f k) (p .device) 0)))
+    λ k. wellFormed (record { count = e k; kinds = f k; registers = c .registers; place = c .place }) g p
 
 -- Picking up what was saved, into a state of the same chain with no open run and the same memory, gives the state saved, registers included.
 pub saved-back : (c d : Chain) (m n out out′ : List ℕ) (w : Written) (r : Made)
@@ -110,7 +109,7 @@ saved-back c d m n out out′ w r range save h count kinds len ill shut up =
     let g : List ℕ = c .registers in
     let p : Place = c .place in
     let well = open-well c (o .1 .0) (o .1 .1 .0) in
-    let f = fits g p range (narrow c (length m) g p (o .0) (well .1)) (next-fits c (length m) g p (o .0) (well .1) (range .end)) in
+    let f = fits saved-form (lit< tt) g p range (narrow c (length m) g p (o .0) (well .1)) (next-fits c (length m) g p (o .0) (well .1) (range .end)) in
     let s : List ℕ = savedBytes g p in
     let same : take saved-length out′ ≡ s =
     ap (take saved-length) (save .output ∙ sym (save-on c (length m) out num .1)) ∙ take-at s (drop saved-length out) saved-length (length-saved g p)
@@ -160,7 +159,7 @@ byte-at (suc n) [] f i = absurd f
 module _ (s : List ℕ) where
   -- the values of what bytes hold are what they hold, where the marks are right
   marked-values : getD (heldFields s) 0 0 ≡ saved-form → getD (heldFields s) 5 0 ≡ 0 → getD (heldFields s) 7 0 ≡ 0
-      → values (registersOf (heldFields s)) (placeOf (heldFields s)) ≡ heldFields s
+      → values saved-form (registersOf (heldFields s)) (placeOf (heldFields s)) ≡ heldFields s
   unfolding heldFields
   marked-values a b e =
       let v = heldFields s in
@@ -191,7 +190,7 @@ module _ (s : List ℕ) where
 -- what bytes hold, saved, is those bytes
 taken-bytes : (c : Chain) (s : List ℕ) → ((i : ℕ) → getD s i 0 < 2 ^ 8) → wellSaved c s ≡ true
     → savedBytes (registersOf (heldFields s)) (placeOf (heldFields s)) ≡ s
-unfolding wellSaved savedBytes
+unfolding wellSaved frontBytes
 taken-bytes c s byte h =
     let v = heldFields s in
     let whole : Bool = eqb (length s) saved-length in

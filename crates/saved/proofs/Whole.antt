@@ -6,7 +6,7 @@ use lib.ListN.{length, getD}
 use lib.Dec.{lit<}
 use Rattle.chain.specs.declared.Place.{Place}
 use Rattle.saved.specs.Fields.{packed, fieldsOf, recut, bytes}
-use Rattle.saved.specs.Layout.{saved-length, headWidths, headValues, widths, values, savedBytes, heldFields}
+use Rattle.saved.specs.Layout.{saved-length, headWidths, headValues, widths, values, frontBytes, heldFields}
 use Rattle.saved.proofs.Packing.{Fit}
 use Rattle.saved.proofs.Regroup.{elems, elems-is}
 use Rattle.saved.proofs.Chunks.{done, byte, word, group, joined}
@@ -24,20 +24,20 @@ written g p h =
     ++ (fieldsOf (bytes 4) (p .mismatches)
     ++ (elems 0 8 g ++ (p .control ∷ []))))))))
 
-head-fits : (p : Place) → Narrow p → Fit headWidths (headValues p)
-head-fits p n = (lit< tt, (n .mode, (n .check, (n .device, (n .awaited, (lit< tt, tt))))))
+head-fits : (form : ℕ) (p : Place) → form < 2 ^ 4 → Narrow p → Fit headWidths (headValues form p)
+head-fits form p k n = (k, (n .mode, (n .check, (n .device, (n .awaited, (lit< tt, tt))))))
 
-module _ (g : List ℕ) (p : Place) (r : Ranged g p) (n : Narrow p) (t : p .next < 2 ^ 16) where
+module _ (form : ℕ) (k : form < 2 ^ 4) (g : List ℕ) (p : Place) (r : Ranged g p) (n : Narrow p) (t : p .next < 2 ^ 16) where
   regs : elems 0 8 g ≡ g
   regs = elems-is 0 8 g (sym (r .eight))
 
-  pub fits : Fit widths (values g p)
+  pub fits : Fit widths (values form g p)
   fits =
-      subst (λ (l : List ℕ). Fit widths (values l p)) regs
-      (lit< tt, (n .mode, (n .check, (n .device, (n .awaited, (lit< tt, (r .left, (lit< tt, (r .start, (r .end, (t, (r .taken, (r .mismatches, (r .register 0, (r .register 1, (r .register 2, (r .register 3, (r .register 4, (r .register 5, (r .register 6, (r .register 7, (r .control, tt))))))))))))))))))))))
+      subst (λ (l : List ℕ). Fit widths (values form l p)) regs
+      (k, (n .mode, (n .check, (n .device, (n .awaited, (lit< tt, (r .left, (lit< tt, (r .start, (r .end, (t, (r .taken, (r .mismatches, (r .register 0, (r .register 1, (r .register 2, (r .register 3, (r .register 4, (r .register 5, (r .register 6, (r .register 7, (r .control, tt))))))))))))))))))))))
 
-  pub saved-is : savedBytes g p ≡ written g p (packed headWidths (headValues p))
-  unfolding savedBytes
+  pub saved-is : frontBytes form g p ≡ written g p (packed headWidths (headValues form p))
+  unfolding frontBytes
   saved-is =
       let c26 = byte done 8 (p .control) (r .control) in
       let c25 = byte c26 8 (getD g 7 0) (r .register 7) in
@@ -55,8 +55,8 @@ module _ (g : List ℕ) (p : Place) (r : Ranged g p) (n : Narrow p) (t : p .next
       let c4 = word c6 (bytes 2) 16 (p .start) (r .start) refl refl in
       let c3 = byte c4 8 0 (lit< tt) in
       let c2 = byte c3 8 (p .left) (r .left) in
-      let c0 = group c2 (bytes 2) headWidths (headValues p) (head-fits p n) refl refl in
-      ap (λ (l : List ℕ). recut widths (bytes saved-length) (values l p)) (sym regs) ∙ c0 .is
+      let c0 = group c2 (bytes 2) headWidths (headValues form p) (head-fits form p k n) refl refl in
+      ap (λ (l : List ℕ). recut widths (bytes saved-length) (values form l p)) (sym regs) ∙ c0 .is
 
 -- the code's fields: 16 and 32 bits at i
 abbrev pub at16 : List ℕ → ℕ → ℕ

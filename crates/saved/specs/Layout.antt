@@ -35,19 +35,23 @@ widths =
     ∷ (bytes 8 ++ (8 ∷ [])))
 
 -- the values in the same rows
-abbrev pub headValues : Place → List ℕ
-headValues p = saved-form ∷ p .mode ∷ p .check ∷ p .device ∷ p .awaited ∷ 0 ∷ []
+abbrev pub headValues : ℕ → Place → List ℕ
+headValues form p = form ∷ p .mode ∷ p .check ∷ p .device ∷ p .awaited ∷ 0 ∷ []
 
-abbrev pub values : List ℕ → Place → List ℕ
-values registers p =
-    headValues p
+abbrev pub values : ℕ → List ℕ → Place → List ℕ
+values form registers p =
+    headValues form p
     ++ (p .left ∷ 0
     ∷ p .start ∷ p .end ∷ p .next
     ∷ p .taken ∷ p .mismatches
     ∷ (registers ++ (p .control ∷ [])))
 
-unfoldable pub savedBytes : List ℕ → Place → List ℕ
-savedBytes registers p = recut widths (bytes saved-length) (values registers p)
+-- these fields as bytes
+unfoldable pub frontBytes : ℕ → List ℕ → Place → List ℕ
+frontBytes form registers p = recut widths (bytes saved-length) (values form registers p)
+
+abbrev pub savedBytes : List ℕ → Place → List ℕ
+savedBytes registers p = frontBytes saved-form registers p
 
 -- the fields that bytes hold
 unfoldable pub heldFields : List ℕ → List ℕ

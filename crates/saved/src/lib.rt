@@ -14,7 +14,7 @@ ghost use lib.ListN.{length, getD, drop};
 ghost use lib.Seq.{sets};
 ghost use Rattle.chain.specs.Rules.{allOf};
 ghost use Rattle.saved.specs.Fields.{packed, fieldsOf, bytes};
-ghost use Rattle.saved.specs.Layout.{headWidths, headValues, saved-length, savedBytes, heldFields, placeOf, registersOf, marks};
+ghost use Rattle.saved.specs.Layout.{headWidths, headValues, saved-length, frontBytes, heldFields, placeOf, registersOf, marks};
 ghost use Rattle.saved.specs.Calls.{Save, PickUp};
 
 // Bytes 0 and 1 form, mode, check, device, awaited, a zero bit; 2 windows left; 3 zero; 4 start; 6 end; 8 next cell; 10 bytes taken;
@@ -24,11 +24,11 @@ pub const SAVED_LENGTH: usize = 27;
 const SAVED_FORM: u16 = 1;
 
 // The first two bytes; the zero bit is what the last shift leaves.
-fn head(p: Place) -> u16
-    requires { ⌜ (p .mode < 8) × (p .check < 2) × (p .device < 8) × (p .awaited < 16) ⌝ }
-    ensures { λ r. ⌜ r ≡ packed headWidths (headValues p) ⌝ }
+fn head(form: u16, p: Place) -> u16
+    requires { ⌜ (form < 16) × (p .mode < 8) × (p .check < 2) × (p .device < 8) × (p .awaited < 16) ⌝ }
+    ensures { λ r. ⌜ r ≡ packed headWidths (headValues form p) ⌝ }
 {
-    (SAVED_FORM << 12)
+    (form << 12)
         | (((p.mode as u16) << 9)
             | (((p.check as u16) << 8) | (((p.device as u16) << 5) | ((p.awaited as u16) << 1))))
 }
@@ -53,12 +53,12 @@ fn put32(out: &mut [u8], i: usize, x: u32)
 }
 
 // Bytes 0 to 3.
-fn put_head(out: &mut [u8], p: Place)
-    requires { ⌜ (p .mode < 8) × (p .check < 2) × (p .device < 8) × (p .awaited < 16) ⌝ }
+fn put_head(out: &mut [u8], form: u16, p: Place)
+    requires { ⌜ (form < 16) × (p .mode < 8) × (p .check < 2) × (p .device < 8) × (p .awaited < 16) ⌝ }
     requires { ⌜ 26 < length (now out) ⌝ }
-    ensures { λ _. ⌜ now (out .exit) ≡ sets (now (out .entry)) 0 (fieldsOf (bytes 2) (packed headWidths (headValues p)) ++ (p .left ∷ 0 ∷ [])) ⌝ }
+    ensures { λ _. ⌜ now (out .exit) ≡ sets (now (out .entry)) 0 (fieldsOf (bytes 2) (packed headWidths (headValues form p)) ++ (p .left ∷ 0 ∷ [])) ⌝ }
 {
-    put16(out, 0, head(p));
+    put16(out, 0, head(form, p));
     out[2] = p.left;
     out[3] = 0;
 }
@@ -95,12 +95,12 @@ fn put_registers(out: &mut [u8], registers: [u8; 8])
 }
 
 // The 27 bytes, into the front of out.
-fn put_place(out: &mut [u8], registers: [u8; 8], p: Place)
-    requires { ⌜ (p .mode < 8) × (p .check < 2) × (p .device < 8) × (p .awaited < 16) ⌝ }
+fn put_place(out: &mut [u8], form: u16, registers: [u8; 8], p: Place)
+    requires { ⌜ (form < 16) × (p .mode < 8) × (p .check < 2) × (p .device < 8) × (p .awaited < 16) ⌝ }
     requires { ⌜ 26 < length (now out) ⌝ }
-    ensures { λ _. ⌜ now (out .exit) ≡ savedBytes registers p ++ drop saved-length (now (out .entry)) ⌝ }
+    ensures { λ _. ⌜ now (out .exit) ≡ frontBytes form registers p ++ drop saved-length (now (out .entry)) ⌝ }
 {
-    put_head(out, p);
+    put_head(out, form, p);
     put_window(out, p);
     put_counts(out, p);
     put_registers(out, registers);
@@ -126,7 +126,7 @@ pub fn save(c: Chain, mem: &[u8], out: &mut [u8]) -> Written
     }
     let rs = c.registers;
     let p = c.place;
-    put_place(out, rs, p);
+    put_place(out, SAVED_FORM, rs, p);
     Written {
         number: DONE,
         length: SAVED_LENGTH,

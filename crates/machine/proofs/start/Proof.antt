@@ -29,10 +29,13 @@ returns-3 c = record { made = simp (start-passes (c .before .before .before .bef
 task-requires : tie.Need-task-requires
 task-requires c κs = search needs
 
+closed-place-requires : tie.Need-closed-place-requires
+closed-place-requires c κs = search needs
+
 returns-4 : tie.Need-returns-4
 unfolding startOf
-returns-4 c = record { made = simp (start-passes (c .before .before .before .before .before .before .before .args .c) (length ((c .before .before .before .before .before .before .before .args .mem) .now)) (c .before .before .before .before .before .before .before .args .mode) (sym (c .before .before .before .before .before .state-number .ensures) ∙ (c .before .before .before .before .if1 .left)), (c .before .before .before .if2 .left), (c .task .ensures)) (search tests) }
+returns-4 c = record { made = simp (start-passes (c .before .before .before .before .before .before .before .before .args .c) (length ((c .before .before .before .before .before .before .before .before .args .mem) .now)) (c .before .before .before .before .before .before .before .before .args .mode) (sym (c .before .before .before .before .before .before .state-number .ensures) ∙ (c .before .before .before .before .before .if1 .left)), (c .before .before .before .before .if2 .left), (c .before .task .ensures), (c .closed-place .ensures)) (search tests) }
 
 pub start-spec : {M : Type 1} → statement M
 start-spec =
-    tie.close (tie.spec state-number-requires returns returns-2 returns-3 task-requires returns-4)
+    tie.close (tie.spec state-number-requires returns returns-2 returns-3 task-requires closed-place-requires returns-4)

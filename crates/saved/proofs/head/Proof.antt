@@ -21,11 +21,12 @@ cast-result-4 : tie.Need-cast-result-4
 cast-result-4 c = search needs
 
 returns : tie.Need-returns
-returns c = let p = (c .before .before .before .before .args .p) in
+returns c = let a = (c .before .before .before .before .args) in
+    let p = a .p in
     let n = (c .before .before .before .before .pre) in
-    ap (λ (x : ℕ). bitOr (2 ^ 12) (bitOr (p .mode * 2 ^ 9 % 2 ^ 16) (bitOr (p .check * 2 ^ 8 % 2 ^ 16) (bitOr (p .device * 2 ^ 5 % 2 ^ 16) x))))
+    ap (λ (x : ℕ). bitOr (a .form * 2 ^ 12 % 2 ^ 16) (bitOr (p .mode * 2 ^ 9 % 2 ^ 16) (bitOr (p .check * 2 ^ 8 % 2 ^ 16) (bitOr (p .device * 2 ^ 5 % 2 ^ 16) x))))
     (sym (or-zero-r (p .awaited * 2 ^ 1 % 2 ^ 16)))
-    ∙ ored-packed 16 headWidths (headValues p) (lit< tt, (n .0, (n .1, (n .2, (n .3, (lit< tt, tt)))))) (lit≤ tt)
+    ∙ ored-packed 16 headWidths (headValues (a .form) p) (n .0, (n .1, (n .2, (n .3, (n .4, (lit< tt, tt)))))) (lit≤ tt)
 
 pub head-spec : {M : Type 1} → statement M
 head-spec = tie.close (tie.spec cast-result cast-result-2 cast-result-3 cast-result-4 returns)

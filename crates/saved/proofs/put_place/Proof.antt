@@ -57,7 +57,7 @@ returns c = let a = (c .before .before .before .before .before .before .before .
     let p = a .p in
     let g = a .registers in
     let out = a .out .now in
-    let h = packed headWidths (headValues p) in
+    let h = packed headWidths (headValues (a .form) p) in
     let e = (c .before .before .before .before .before .before .put-counts .ensures)
     ∙ ap (λ (l : List ℕ). sets l 10 (fieldsOf (bytes 4) (p .taken) ++ fieldsOf (bytes 4) (p .mismatches)))
     ((c .before .before .before .before .before .before .before .before .before .before .put-window .ensures)
@@ -67,7 +67,7 @@ returns c = let a = (c .before .before .before .before .before .before .before .
     let r = ranged s in
     ap (λ (l : List ℕ). set l 26 (p .control)) ((c .before .before .put-registers .ensures) ∙ (λ k. sets (e k) 18 (sym (elems-is 0 8 g (sym (r .eight))) k)))
     ∙ sets-eq (written g p h) out 0 (n .1)
-    ∙ ap (λ (l : List ℕ). l ++ drop saved-length out) (sym (saved-is g p r (record { mode = n .0 .0; check = n .0 .1; device = n .0 .2; awaited = n .0 .3 }) (next s)))
+    ∙ ap (λ (l : List ℕ). l ++ drop saved-length out) (sym (saved-is (a .form) (n .0 .0) g p r (record { mode = n .0 .1; check = n .0 .2; device = n .0 .3; awaited = n .0 .4 }) (next s)))
 
 pub put-place-spec : {M : Type 1} → statement M
 put-place-spec =

@@ -1,3 +1,4 @@
+use lib.Dec.{lit<}
 use mathlib.Core.Path.{sym, _∙_}
 use native.Mathlib.Omega.{arith}
 use borrow.Author.Tests.{lt-ltb, le-ltb}
@@ -32,7 +33,7 @@ put-place-requires c κs = let a = (c .before .before .before .before .before .b
     let o = open-none (a .c) (length (a .mem .now)) e in
     let w = open-well (a .c) (o .1 .0) (o .1 .1 .0) in
     let n = narrow (a .c) (length (a .mem .now)) (a .c .registers) (a .c .place) (o .0) (w .1) in
-    ((n .mode, n .check, n .device, n .awaited), (c .before .before .before .if2 .left))
+    ((lit< tt, n .mode, n .check, n .device, n .awaited), (c .before .before .before .if2 .left))
 
 same-length : tie.Need-same-length
 same-length c = search needs
