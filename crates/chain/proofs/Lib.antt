@@ -12,3 +12,4 @@ pub mod Numbers
 pub mod WellFormed
 pub mod Sound
 pub mod Only
+pub mod Output

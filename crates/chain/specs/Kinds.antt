@@ -28,6 +28,10 @@ sizeOf k = lookup kinds sizes k
 abbrev pub sizeAt : Chain → ℕ → ℕ
 sizeAt c d = sizeOf (getD (c .kinds) d 0)
 
+-- the size of the run's device
+abbrev pub sizeHere : Chain → ℕ
+sizeHere c = sizeAt c (c .place .device)
+
 -- the memories lie one after another: the sizes of the first n kinds in all, which is where the memory of device n begins
 unfoldable pub baseOf : List ℕ → ℕ → ℕ
 baseOf ks zero = 0

@@ -1,8 +1,9 @@
 // Kinds of device, their sizes, and where a device's memory begins.
+use crate::Chain;
 use crate::eight::at8;
 ghost use mathlib.Core.Path.{_≡_};
 ghost use Prim.Native.Nat.{_≤_};
-ghost use Rattle.chain.specs.Kinds.{sizeOf, baseOf, knownOf};
+ghost use Rattle.chain.specs.Kinds.{sizeOf, sizeHere, baseOf, knownOf};
 
 const KINDS: [u8; 5] = [0, 2, 3, 5, 10];
 
@@ -29,6 +30,14 @@ pub fn size_of(kind: u8) -> u16
         return SIZES[4];
     }
     0
+}
+
+// The size of the run's device.
+pub fn size_here(c: Chain) -> u16
+    ensures { λ r. ⌜ r ≡ sizeHere c ⌝ }
+{
+    let ks = c.kinds;
+    size_of(at8(ks, c.place.device))
 }
 
 // Where the memory of a device begins. The bound is what makes an address safe to add up.

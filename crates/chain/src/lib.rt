@@ -3,6 +3,7 @@ pub mod eight;
 pub mod kinds;
 pub mod paper;
 pub mod state;
+pub mod window;
 
 use crate::eight::first_only;
 use crate::paper::*;

@@ -16,11 +16,10 @@ use Rattle.chain.specs.declared.Place.{Place}
 use Rattle.chain.specs.Paper.{at·preamble, at·second, at·null, at·start, at·start-low, at·end, at·end-low, at·data, done, no-preamble, bad-start, bad-end, more}
 use Rattle.chain.specs.Rules.{Rule, _gives_, firstOf, from}
 use Rattle.chain.specs.Set.{with·place, closedPlace}
-use Rattle.chain.specs.Kinds.{baseOf}
+use Rattle.chain.specs.Kinds.{baseOf, sizeHere}
 use Rattle.chain.specs.State.{openNumber, feedNumber}
 use Rattle.machine.specs.Run.{run, runOf}
 use Rattle.machine.specs.Calls.{answered, fedOf, sliceOf, sliceMemory}
-use Rattle.machine.specs.Byte.{sizeHere}
 use Rattle.closing.specs.Closing.{withFF, tail, window, refusesFF, endLow, closingBytes}
 use Rattle.closing.specs.Calls.{writtenNumber}
 use Rattle.closing.proofs.Meets.{number-open}

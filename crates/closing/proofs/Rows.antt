@@ -15,8 +15,9 @@ use Rattle.chain.specs.declared.Place.{Place}
 use Rattle.chain.specs.Paper.{postamble, no-windows, at·preamble, at·second, at·control, at·address, at·address2, at·address3, at·count, at·null, at·start, at·start-low, at·end, at·end-low, at·data, at·check, writing, done, no-preamble, bad-start, bad-end, more, B3}
 use Rattle.chain.specs.Rules.{pick}
 use Rattle.chain.specs.Set.{with·awaited, with·left, with·control, with·start, with·end, with·next, with·place}
-use Rattle.chain.specs.Kinds.{sizeAt, baseOf}
-use Rattle.machine.specs.Byte.{awaits, checks, sizeHere, withLow, badStart, badEnd, noWindow, numberOf, passedOf, advanceOf}
+use Rattle.chain.specs.Kinds.{sizeAt, baseOf, sizeHere}
+use Rattle.chain.specs.Window.{withLow}
+use Rattle.machine.specs.Byte.{awaits, checks, badStart, badEnd, noWindow, numberOf, passedOf, advanceOf}
 use Rattle.machine.specs.Run.{addressOf, memoryOf, registersOf, missedOf, counted, run, stepOf, runOf}
 use Rattle.machine.specs.Block.{missesOf}
 use Rattle.machine.proofs.Block.{blockOf, block, misses-same, laid-same}

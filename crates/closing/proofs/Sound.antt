@@ -16,9 +16,9 @@ use Rattle.chain.proofs.Means.{says, reads}
 use Rattle.chain.specs.declared.Chain.{Chain}
 use Rattle.chain.specs.Paper.{at·control, at·data, closed, opened, most-devices, most-memory, checking, done, bad-chain, ill-formed, no-run, B3}
 use Rattle.chain.specs.Rules.{pick, allFrom, allOf, from}
-use Rattle.chain.specs.Kinds.{sizeOf, baseOf, knownOf}
+use Rattle.chain.specs.Kinds.{sizeOf, baseOf, knownOf, sizeHere}
 use Rattle.chain.specs.State.{badChain, unusedZero, formed, wellFormed, illFormed, openNumber}
-use Rattle.machine.specs.Byte.{sizeHere, checks}
+use Rattle.machine.specs.Byte.{checks}
 use Rattle.closing.specs.Closing.{storedRegister}
 
 -- ---- sizes, once for all kinds

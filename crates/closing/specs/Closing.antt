@@ -8,8 +8,7 @@ use Rattle.chain.specs.declared.Chain.{Chain}
 use Rattle.chain.specs.declared.Place.{Place}
 use Rattle.chain.specs.Paper.{postamble, no-windows, at·preamble, at·second, at·control, at·address, at·address2, at·address3, at·count, at·null, at·start, at·start-low, at·end, at·end-low, at·data, at·check}
 use Rattle.chain.specs.Rules.{pick, _⇒_, rowOf}
-use Rattle.chain.specs.Kinds.{baseOf}
-use Rattle.machine.specs.Byte.{sizeHere}
+use Rattle.chain.specs.Kinds.{baseOf, sizeHere}
 
 -- the current device's stored register
 abbrev pub storedRegister : Chain → ℕ

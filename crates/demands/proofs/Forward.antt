@@ -16,7 +16,8 @@ use Rattle.chain.specs.Paper.{preamble, postamble, no-windows, at·preamble, at
 use Rattle.chain.specs.Rules.{pick}
 use Rattle.chain.specs.Set.{with·awaited, with·left, with·control, with·start, with·end, with·next, with·device, with·place}
 use Rattle.chain.proofs.ByCases.{by-test}
-use Rattle.machine.specs.Byte.{withLow, numberOf, noWindow, passedOf, advanceOf}
+use Rattle.chain.specs.Window.{withLow}
+use Rattle.machine.specs.Byte.{numberOf, noWindow, passedOf, advanceOf}
 use Rattle.machine.specs.Run.{addressOf, registersOf, missedOf, counted, Run, run, wentOn, stepOf, runOf}
 use Rattle.machine.specs.Calls.{openedPlace}
 use Rattle.machine.specs.Block.{missesOf, laidOf}

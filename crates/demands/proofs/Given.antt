@@ -8,7 +8,7 @@ use Rattle.chain.specs.declared.Chain.{Chain}
 use Rattle.chain.specs.Paper.{most-devices, done, more}
 use Rattle.chain.specs.Set.{with·place}
 use Rattle.chain.specs.State.{feedNumber}
-use Rattle.machine.specs.Byte.{sizeHere}
+use Rattle.chain.specs.Kinds.{sizeHere}
 use Rattle.machine.specs.Run.{run, runOf}
 use Rattle.machine.specs.Calls.{openedPlace}
 use Rattle.demands.specs.Grammar.{Bytes}

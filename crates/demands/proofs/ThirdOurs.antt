@@ -11,7 +11,7 @@ use Rattle.chain.specs.Paper.{writing, done, more}
 use Rattle.chain.specs.declared.Made.{Made}
 use Rattle.chain.specs.Set.{with·place}
 use Rattle.machine.specs.declared.Fed.{Fed}
-use Rattle.machine.specs.Byte.{sizeHere}
+use Rattle.chain.specs.Kinds.{sizeHere}
 use Rattle.machine.specs.Run.{run, runOf}
 use Rattle.machine.specs.Calls.{openedPlace, sliceOf}
 use Rattle.machine.proofs.Slices.{slice-runs, fed-number}

@@ -6,7 +6,9 @@ use mathlib.Core.List.{List, [], _∷_}
 use lib.ListN.{length, getD, take}
 use Rattle.chain.specs.declared.Chain.{Chain}
 use Rattle.chain.specs.Paper.{preamble, postamble, at·preamble, at·second, at·control, at·start-low, at·end-low, at·check, closed, checking, two-preambles, done, no-preamble, barred, no-check, bad-check-byte, ends-here, last-device, bad-start, bad-end, more, bit2, bit3, bit4}
-use Rattle.machine.specs.Byte.{sizeHere, withLow, nextDevice}
+use Rattle.chain.specs.Kinds.{sizeHere}
+use Rattle.chain.specs.Window.{withLow}
+use Rattle.machine.specs.Byte.{nextDevice}
 use Rattle.machine.specs.Calls.{sliceOf}
 use Rattle.demands.specs.Formed.{BadChain, IllFormed, Sets}
 use Rattle.demands.specs.Table.{Claim, _when_, feedTable}

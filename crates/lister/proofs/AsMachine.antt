@@ -15,9 +15,9 @@ use Rattle.chain.specs.declared.Chain.{Chain}
 use Rattle.chain.specs.Paper.{preamble, postamble, at·second, at·control, at·address, at·address2, at·address3, at·count, writing, first-mode, two-preambles, done, no-preamble, bad-check-byte, ends-here, last-device, too-short, more, B2}
 use Rattle.chain.specs.Rules.{pick, from}
 use Rattle.chain.specs.Set.{with·place, with·control}
-use Rattle.chain.specs.Kinds.{sizeOf, baseOf}
+use Rattle.chain.specs.Kinds.{sizeOf, baseOf, sizeHere}
 use Rattle.chain.specs.Calls.{firstOnly, freshChain}
-use Rattle.machine.specs.Byte.{sizeHere, numberOf, advanceOf}
+use Rattle.machine.specs.Byte.{numberOf, advanceOf}
 use Rattle.machine.specs.Run.{Run, run, memoryOf, registersOf, missedOf, ended, stepOf, runOf}
 use Rattle.machine.specs.Calls.{openedPlace}
 use Rattle.machine.proofs.Feed.{run-at, run-end}

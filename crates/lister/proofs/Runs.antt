@@ -14,8 +14,8 @@ use Rattle.chain.specs.declared.Chain.{Chain}
 use Rattle.chain.specs.Paper.{at·null, at·start, at·start-low, at·end, at·end-low, at·data, at·check, opened, writing, done, bad-start, bad-end, more}
 use Rattle.chain.specs.Rules.{pick}
 use Rattle.chain.specs.Set.{with·running, with·check, with·awaited, with·left, with·start, with·end, with·next, with·taken, with·mismatches, with·place}
-use Rattle.chain.specs.Kinds.{baseOf}
-use Rattle.machine.specs.Byte.{sizeHere, numberOf, advanceOf, passedOf}
+use Rattle.chain.specs.Kinds.{baseOf, sizeHere}
+use Rattle.machine.specs.Byte.{numberOf, advanceOf, passedOf}
 use Rattle.machine.specs.Run.{Run, run, addressOf, memoryOf, registersOf, missedOf, ended, stepOf, runOf}
 use Rattle.machine.specs.Block.{missesOf, laidOf}
 use Rattle.machine.proofs.Feed.{run-at, run-end, run-over, run-part}

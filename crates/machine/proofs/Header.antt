@@ -13,10 +13,11 @@ use Rattle.chain.specs.declared.Chain.{Chain}
 use Rattle.chain.specs.declared.Place.{Place}
 use Rattle.chain.specs.Paper.{at·control, at·null, at·start, at·start-low, at·end, at·end-low, at·data, more}
 use Rattle.chain.specs.Set.{with·awaited, with·start, with·end, with·next, with·place}
-use Rattle.chain.specs.Kinds.{sizeAt}
-use Rattle.machine.specs.Byte.{withLow, sizeHere, numberOf, advanceOf}
+use Rattle.chain.specs.Kinds.{sizeAt, sizeHere}
+use Rattle.chain.specs.Window.{withLow, fitsOf}
+use Rattle.machine.specs.Byte.{numberOf, advanceOf}
 use Rattle.machine.specs.Run.{memoryOf, registersOf, missedOf, counted, Run, run, stepOf, runOf}
-use Rattle.machine.specs.Block.{fitsOf, headedOf}
+use Rattle.machine.specs.Block.{headedOf}
 
 module _ (c : Chain) (m : List ℕ) where
   -- a byte that is neither data nor control moves the place alone

@@ -19,7 +19,8 @@ use Rattle.chain.proofs.Means.{says, said, reads}
 use Rattle.chain.proofs.FirstOf.{first-none, none-given, conditionOf}
 use Rattle.chain.specs.Kinds.{sizeAt}
 use Rattle.chain.proofs.WellFormed.{Formed, formed-of, placeRegister}
-use Rattle.machine.specs.Byte.{awaits, checks, withLow, begins, registerBegun, byteRules, numberOf, passedOf, advanceOf}
+use Rattle.chain.specs.Window.{withLow}
+use Rattle.machine.specs.Byte.{awaits, checks, begins, registerBegun, byteRules, numberOf, passedOf, advanceOf}
 use Rattle.machine.specs.Run.{registersOf}
 
 -- where a byte leaves the run open no rule of the byte applies

@@ -1,10 +1,9 @@
 -- For the contracts of private helpers alone, no promise cites it: data bytes as one block, and the five bytes before them. Assumes nothing.
 use Prim.Native.Nat.{ℕ, suc, _+_, _-_, _≤_}
-use mathlib.Core.Bool.{Bool, _&&_}
 use mathlib.Core.List.{List, [], _∷_}
 use lib.ListN.{getD}
 use lib.Seq.{sets}
-use lib.Dec.{eqb, ltb, leb}
+use lib.Dec.{eqb}
 use Rattle.cells.specs.Differ.{unlikeOf}
 use Rattle.chain.specs.declared.Place.{Place}
 use Rattle.chain.specs.Paper.{writing, checking, at·data}
@@ -29,10 +28,6 @@ pub record Span (p : Place) (at len have r : ℕ) : Type 0 where
   pub window : r ≤ p .end - p .next + 1
   pub inside : r ≤ len - at
   pub small : r ≤ 65536
-
--- a window that a device of that size has
-abbrev pub fitsOf : ℕ → ℕ → ℕ → Bool
-fitsOf size start end = ltb start size && leb start end && ltb end size
 
 -- the place after null, start and end
 abbrev pub headedOf : Place → ℕ → ℕ → Place

@@ -1,5 +1,5 @@
 -- One byte of an open run: which number it gives, and where the run goes on. Assumes nothing.
-use Prim.Native.Nat.{ℕ, _+_, _-_, _*_, _/_, _%_, _^_}
+use Prim.Native.Nat.{ℕ, _+_, _-_, _*_, _%_, _^_}
 use mathlib.Core.Bool.{Bool, not, _&&_, _||_}
 use mathlib.Core.List.{List, [], _∷_}
 use lib.ListN.{getD}
@@ -9,7 +9,8 @@ use Rattle.chain.specs.declared.Place.{Place}
 use Rattle.chain.specs.Paper.{preamble, postamble, no-windows, at·preamble, at·second, at·control, at·address, at·address2, at·address3, at·count, at·null, at·start, at·start-low, at·end, at·end-low, at·data, at·check, checking, two-preambles, done, no-preamble, barred, no-check, bad-check-byte, ends-here, last-device, bad-start, bad-end, more, B2, B3, B4}
 use Rattle.chain.specs.Rules.{pick, Rule, _gives_, firstOf, Row, _⇒_, rowOf}
 use Rattle.chain.specs.Set.{with·awaited, with·left, with·control, with·start, with·end, with·next, with·device}
-use Rattle.chain.specs.Kinds.{sizeAt}
+use Rattle.chain.specs.Kinds.{sizeHere}
+use Rattle.chain.specs.Window.{withLow, startOutside, endOutside}
 
 -- the run awaits the byte a
 abbrev pub awaits : Chain → ℕ → Bool
@@ -17,14 +18,6 @@ awaits c a = eqb (c .place .awaited) a
 
 abbrev pub checks : Chain → Bool
 checks c = eqb (c .place .check) checking
-
--- the size of the run's device
-abbrev pub sizeHere : Chain → ℕ
-sizeHere c = sizeAt c (c .place .device)
-
--- the value of a high byte, kept as a multiple of 256, and its low byte
-abbrev pub withLow : ℕ → ℕ → ℕ
-withLow high b = high / 256 * 256 + b
 
 -- b begins a device: B2 at the preamble, in mode 6 at the second, or at the check byte
 abbrev pub begins : Chain → ℕ → Bool
@@ -45,11 +38,11 @@ onLast c = leb (c .count) (c .place .device + 1)
 
 -- 11, at the start's second byte: not below the device's size
 abbrev pub badStart : Chain → ℕ → Bool
-badStart c b = not (ltb (withLow (c .place .start) b) (sizeHere c))
+badStart c b = startOutside (sizeHere c) (withLow (c .place .start) b)
 
 -- 12, at the end's second byte: below start or not below size
 abbrev pub badEnd : Chain → ℕ → Bool
-badEnd c b = ltb (withLow (c .place .end) b) (c .place .start) || not (ltb (withLow (c .place .end) b) (sizeHere c))
+badEnd c b = endOutside (sizeHere c) (c .place .start) (withLow (c .place .end) b)
 
 -- what a byte of an open run gives. Both orders of document 01, 5 6 7 at a preamble and 8 9 10 6 7 at the check byte, are in this one
 abbrev pub byteRules : Chain → ℕ → List Rule

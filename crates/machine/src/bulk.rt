@@ -10,7 +10,8 @@ ghost use Prim.Native.Nat.{_+_, _-_, _*_, _≤_, _<_};
 ghost use lib.ListN.{length};
 ghost use Rattle.chain.specs.Paper.{at·data, more};
 ghost use Rattle.machine.specs.Run.{addressOf, counted, run, runOf};
-ghost use Rattle.machine.specs.Block.{laidOf, missesOf, Span, fitsOf, headedOf};
+ghost use Rattle.chain.specs.Window.{fitsOf};
+ghost use Rattle.machine.specs.Block.{laidOf, missesOf, Span, headedOf};
 ghost use Rattle.chain.specs.Set.{with·place};
 
 // n bytes more taken, k of them mismatches.

@@ -7,7 +7,8 @@ use borrow.Author.Tests.{ne-eqb}
 use lib.ListN.{length}
 use Rattle.chain.specs.Paper.{done}
 use Rattle.writer.specs.Stream.{leadIn, streamOf}
-use Rattle.writer.specs.Write.{most-windows, sumOf, over, numberOf, writeNumber, writeOf, writeOutput, Write}
+use Rattle.chain.specs.Output.{over}
+use Rattle.writer.specs.Write.{most-windows, sumOf, numberOf, writeNumber, writeOf, writeOutput, Write}
 use Rattle.writer.proofs.Accepted.{accepted, number-is}
 
 -- the stream's length as it is worked out before a byte is written

@@ -9,7 +9,8 @@ use Rattle.chain.specs.declared.Written.{Written}
 use Rattle.chain.specs.Paper.{postamble, no-windows, first-mode, done}
 use Rattle.chain.specs.Kinds.{sizeOf}
 use Rattle.writer.specs.Stream.{leadIn, headBytes, windowsBytes, streamOf}
-use Rattle.writer.specs.Write.{sumOf, over, writeNumber, writeOf, writeOutput, Write}
+use Rattle.chain.specs.Output.{over}
+use Rattle.writer.specs.Write.{sumOf, writeNumber, writeOf, writeOutput, Write}
 use Rattle.writer.proofs.Accepted.{accepted, accepts}
 use Rattle.writer.proofs.Parts.{stream-length}
 

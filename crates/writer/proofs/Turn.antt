@@ -5,8 +5,10 @@ use mathlib.Core.List.{List, _++_}
 use native.Mathlib.Omega.{arith}
 use lib.ListN.{length, take, drop, getD, length-drop, take-append-drop}
 use lib.Seq.{drop-drop, length-take-le}
-use Rattle.writer.specs.Stream.{widthOf, windowBytes, windowsBytes}
-use Rattle.writer.specs.Write.{sumOf, over}
+use Rattle.chain.specs.Window.{widthOf}
+use Rattle.writer.specs.Stream.{windowBytes, windowsBytes}
+use Rattle.chain.specs.Output.{over}
+use Rattle.writer.specs.Write.{sumOf}
 use Rattle.writer.proofs.Over.{back, over-more, length-more, tail-length}
 use Rattle.writer.proofs.Windows.{bytes-more, bytes-done, sum-more, sum-done}
 

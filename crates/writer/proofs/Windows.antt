@@ -8,7 +8,8 @@ use lib.ListN.{length, take, drop, getD, length-append, length-drop, drop-of-len
 use lib.Seq.{drop-cons, length-take-le}
 use Rattle.chain.specs.Paper.{done}
 use Rattle.chain.specs.Rules.{firstOf}
-use Rattle.writer.specs.Stream.{widthOf, windowBytes, windowsBytes}
+use Rattle.chain.specs.Window.{widthOf}
+use Rattle.writer.specs.Stream.{windowBytes, windowsBytes}
 use Rattle.writer.specs.Write.{windowRules, windowsNumber, sumOf}
 
 -- one window more

@@ -1,11 +1,12 @@
 -- The stream that the writer makes for one device: lead-in, head, windows, postamble. Assumes nothing.
-use Prim.Native.Nat.{ℕ, _+_, _-_, _/_, _%_}
+use Prim.Native.Nat.{ℕ, _-_}
 use mathlib.Core.Bool.{_||_}
 use mathlib.Core.List.{List, [], _∷_, _++_}
 use lib.Dec.{eqb}
 use lib.ListN.{length, take, drop}
 use Rattle.chain.specs.Paper.{preamble, postamble, no-windows, serial-external, serial-internal, two-preambles}
 use Rattle.chain.specs.Rules.{pick}
+use Rattle.chain.specs.Window.{widthOf, highByte, lowByte}
 
 abbrev pub null : ℕ
 null = 0x00
@@ -21,19 +22,9 @@ leadIn mode =
 abbrev pub countByte : ℕ → ℕ
 countByte n = no-windows - n
 
-abbrev pub high : ℕ → ℕ
-high cell = cell / 256
-
-abbrev pub low : ℕ → ℕ
-low cell = cell % 256
-
--- a window covers start to end inclusive
-abbrev pub widthOf : ℕ → ℕ → ℕ
-widthOf start end = end - start + 1
-
 -- a window: null, start and end (high, low), its data bytes
 abbrev pub windowBytes : ℕ → ℕ → List ℕ → List ℕ
-windowBytes start end bytes = null ∷ high start ∷ low start ∷ high end ∷ low end ∷ bytes
+windowBytes start end bytes = null ∷ highByte start ∷ lowByte start ∷ highByte end ∷ lowByte end ∷ bytes
 
 -- the windows in the tables' order; each takes its data bytes from where the last one stopped
 unfoldable pub windowsBytes : List ℕ → List ℕ → List ℕ → List ℕ

@@ -1,15 +1,16 @@
 -- The writer's numbers, in document 01's order, its answer and the output it leaves. Assumes nothing.
 use Prim.Native.Nat.{ℕ, _+_}
 use mathlib.Core.Bool.{not, _||_}
-use mathlib.Core.Path.{_≡_}
-use mathlib.Core.List.{List, [], _∷_, _++_}
+use mathlib.Core.List.{List, [], _∷_}
 use lib.Dec.{eqb, ltb}
-use lib.ListN.{length, drop}
+use lib.ListN.{length}
 use Rattle.chain.specs.declared.Written.{Written}
 use Rattle.chain.specs.Paper.{first-mode, two-preambles, done, bad-chain, bad-mode, bad-start, bad-end, bad-tables, bad-data, too-short}
-use Rattle.chain.specs.Rules.{pick, Rule, _gives_, firstOf, from}
+use Rattle.chain.specs.Rules.{Rule, _gives_, firstOf, from}
 use Rattle.chain.specs.Kinds.{sizeOf}
-use Rattle.writer.specs.Stream.{widthOf, streamOf}
+use Rattle.chain.specs.Window.{widthOf, startOutside, endOutside}
+use Rattle.chain.specs.Output.{writtenOf, outputOf, Writes}
+use Rattle.writer.specs.Stream.{streamOf}
 
 abbrev pub most-windows : ℕ
 most-windows = 255
@@ -17,8 +18,8 @@ most-windows = 255
 -- one window: start not below the size, then end below start or not below the size
 abbrev pub windowRules : ℕ → ℕ → ℕ → List Rule
 windowRules size start end =
-    (not (ltb start size) gives bad-start)
-    ∷ (ltb end start || not (ltb end size) gives bad-end)
+    (startOutside size start gives bad-start)
+    ∷ (endOutside size start end gives bad-end)
     ∷ []
 
 -- window by window: the number of the first window that has one, 0 where none has
@@ -53,29 +54,15 @@ unfoldable pub writeNumber : ℕ → ℕ → ℕ → List ℕ → List ℕ → L
 writeNumber kind mode control address starts ends bytes room =
     numberOf kind mode starts ends (length bytes) (length (streamOf mode control address starts ends bytes)) room
 
--- the length is answered on 0, 0 otherwise
 unfoldable pub writeOf : ℕ → ℕ → ℕ → List ℕ → List ℕ → List ℕ → List ℕ → ℕ → Written
 writeOf kind mode control address starts ends bytes room =
-    record {
-      number = writeNumber kind mode control address starts ends bytes room;
-      length =
-          pick (eqb (writeNumber kind mode control address starts ends bytes room) done)
-          (length (streamOf mode control address starts ends bytes))
-          0;
-    }
+    writtenOf (writeNumber kind mode control address starts ends bytes room) (streamOf mode control address starts ends bytes)
 
--- these bytes over the front of an output, the rest as it was
-abbrev pub over : List ℕ → List ℕ → List ℕ
-over bytes out = bytes ++ drop (length bytes) out
-
--- on 0 only the front part is written; refused, the output is as lent
 unfoldable pub writeOutput : ℕ → ℕ → ℕ → List ℕ → List ℕ → List ℕ → List ℕ → List ℕ → List ℕ
 writeOutput kind mode control address starts ends bytes out =
-    pick (eqb (writeNumber kind mode control address starts ends bytes (length out)) done)
-    (over (streamOf mode control address starts ends bytes) out)
-    out
+    outputOf (writeNumber kind mode control address starts ends bytes (length out)) (streamOf mode control address starts ends bytes) out
 
 -- what a reader may hold write to: r is the answer, out′ the output left
-pub record Write (kind mode control : ℕ) (address starts ends bytes out : List ℕ) (r : Written) (out′ : List ℕ) : Type 0 where
-  pub answer : r ≡ writeOf kind mode control address starts ends bytes (length out)
-  pub output : out′ ≡ writeOutput kind mode control address starts ends bytes out
+abbrev pub Write : ℕ → ℕ → ℕ → List ℕ → List ℕ → List ℕ → List ℕ → List ℕ → Written → List ℕ → Type 0
+Write kind mode control address starts ends bytes out r out′ =
+    Writes (writeNumber kind mode control address starts ends bytes (length out)) (streamOf mode control address starts ends bytes) out r out′

@@ -7,7 +7,8 @@ ghost use mathlib.Core.List.{[]};
 ghost use Prim.Native.Nat.{_+_, _*_, _≤_};
 ghost use lib.ListN.{length};
 ghost use Rattle.writer.specs.Stream.{leadIn, headBytes, windowBytes, windowsBytes, streamOf};
-ghost use Rattle.writer.specs.Write.{most-windows, sumOf, over};
+ghost use Rattle.chain.specs.Output.{over};
+ghost use Rattle.writer.specs.Write.{most-windows, sumOf};
 
 const NULL: u8 = 0x00;
 

@@ -4,7 +4,8 @@ use chain::paper::*;
 ghost use mathlib.Core.Path.{_≡_};
 ghost use Prim.Native.Nat.{_+_, _*_, _≤_};
 ghost use lib.ListN.{length};
-ghost use Rattle.writer.specs.Stream.{leadIn, widthOf};
+ghost use Rattle.chain.specs.Window.{widthOf};
+ghost use Rattle.writer.specs.Stream.{leadIn};
 ghost use Rattle.writer.specs.Write.{most-windows, windowsNumber, sumOf, numberOf};
 
 const MOST_WINDOWS: usize = 255;

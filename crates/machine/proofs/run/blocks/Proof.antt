@@ -7,9 +7,8 @@ use lib.ListN.{length, take, drop, length-drop}
 use lib.Seq.{length-take-le}
 use Rattle.chain.specs.declared.Chain.{Chain}
 use Rattle.chain.specs.Paper.{more}
-use Rattle.chain.specs.Kinds.{sizeOf, baseOf}
-use Rattle.machine.specs.Byte.{sizeHere}
-use Rattle.machine.specs.Block.{fitsOf}
+use Rattle.chain.specs.Kinds.{sizeOf, baseOf, sizeHere}
+use Rattle.chain.specs.Window.{fitsOf}
 use Rattle.machine.specs.Run.{run, runOf, addressOf}
 use Rattle.machine.proofs.Feed.{run-part}
 use Rattle.machine.proofs.Header.{header-part}
