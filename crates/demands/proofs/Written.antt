@@ -9,7 +9,7 @@ use Rattle.chain.specs.declared.Chain.{Chain}
 use Rattle.chain.specs.Paper.{no-windows, done}
 use Rattle.chain.specs.Kinds.{sizeOf}
 use Rattle.writer.specs.Stream.{headBytes, streamOf, windowsBytes as windowsWritten}
-use Rattle.writer.specs.Write.{sumOf, writeNumber, writeOf}
+use Rattle.writer.specs.Write.{sumOf, writeNumber, writeOf, writeOutput}
 use Rattle.writer.proofs.Accepted.{Within, accepts}
 use Rattle.writer.proofs.Lengths.{front}
 use Rattle.demands.specs.Grammar.{Window, Section, sectionsSent, bytesOf, AllFit, SectionFits}
@@ -80,6 +80,7 @@ module _ (kind mode : ℕ) (x : Section) (out : List ℕ) (c : Chain) (f : Secti
       })
 
   pub wrote-bytes : wrote .written .number ≡ done → offered wrote ≡ wanted c mode (nullsOff x)
+  unfolding writeOf writeOutput
   wrote-bytes z =
       front kind mode (x .control) (addressOf x) (starts (x .windows)) (ends (x .windows)) (cells (x .windows)) out (wrote .written) (wrote .out)
       (record { answer = refl; output = refl }) z .1
