@@ -6,13 +6,6 @@ use lib.ListN.{length}
 use borrow.Author.Needs.{needs}
 use Rattle.machine.proofs.start.Statement.{statement}
 use Rattle.machine.proofs.start.Tie as tie
-use Rattle.machine.proofs.start.Reads as reads
-use Rattle.machine.proofs.start.Lts as lts
-use Rattle.chain.proofs.state.state_number.Reads as state-number-reads
-use Rattle.machine.proofs.task.Reads as task-reads
-
-state-number-requires : tie.Need-state-number-requires
-state-number-requires c κs = search needs
 
 returns : tie.Need-returns
 unfolding startOf
@@ -26,16 +19,10 @@ returns-3 : tie.Need-returns-3
 unfolding startOf
 returns-3 c = record { made = simp (start-passes (c .before .before .before .before .before .before .args .c) (length ((c .before .before .before .before .before .before .args .mem) .now)) (c .before .before .before .before .before .before .args .mode) (sym (c .before .before .before .before .state-number .ensures) ∙ (c .before .before .before .if1 .left)), (c .before .before .if2 .left)) (search tests) }
 
-task-requires : tie.Need-task-requires
-task-requires c κs = search needs
-
-closed-place-requires : tie.Need-closed-place-requires
-closed-place-requires c κs = search needs
-
 returns-4 : tie.Need-returns-4
 unfolding startOf
 returns-4 c = record { made = simp (start-passes (c .before .before .before .before .before .before .before .before .args .c) (length ((c .before .before .before .before .before .before .before .before .args .mem) .now)) (c .before .before .before .before .before .before .before .before .args .mode) (sym (c .before .before .before .before .before .before .state-number .ensures) ∙ (c .before .before .before .before .before .if1 .left)), (c .before .before .before .before .if2 .left), (c .before .task .ensures), (c .closed-place .ensures)) (search tests) }
 
 pub start-spec : {M : Type 1} → statement M
 start-spec =
-    tie.close (tie.spec state-number-requires returns returns-2 returns-3 task-requires closed-place-requires returns-4)
+    tie.close (tie.spec (λ c κs. search needs) returns returns-2 returns-3 (λ c κs. search needs) (λ c κs. search needs) returns-4)

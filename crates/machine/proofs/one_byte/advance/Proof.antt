@@ -4,41 +4,10 @@ use Rattle.machine.specs.Byte.{advanceOf}
 use borrow.Author.Needs.{needs}
 use Rattle.machine.proofs.one_byte.advance.Statement.{statement}
 use Rattle.machine.proofs.one_byte.advance.Tie as tie
-use Rattle.machine.proofs.one_byte.advance.Reads as reads
-use Rattle.machine.proofs.one_byte.advance.Lts as lts
-use Rattle.machine.proofs.one_byte.passed.Reads as passed-reads
-use Rattle.std.proofs.num.wrapping_add_u8.Reads as wrapping-add-u8-reads
-
-sub-q : tie.Need-sub-q
-sub-q c = search needs
-
-mul-q : tie.Need-mul-q
-mul-q c = search needs
-
-mul-q-2 : tie.Need-mul-q-2
-mul-q-2 c = search needs
-
-add-q : tie.Need-add-q
-add-q c = search needs
-
-mul-q-3 : tie.Need-mul-q-3
-mul-q-3 c = search needs
-
-mul-q-4 : tie.Need-mul-q-4
-mul-q-4 c = search needs
-
-add-q-2 : tie.Need-add-q-2
-add-q-2 c = search needs
-
-passed-requires : tie.Need-passed-requires
-passed-requires c κs = search needs
 
 returns : tie.Need-returns
 unfolding advanceOf
 returns c = (c .passed .ensures) ∙ simp ((c .before .match .keys13))
-
-wrapping-add-u8-requires : tie.Need-wrapping-add-u8-requires
-wrapping-add-u8-requires c κs = search needs
 
 returns-2 : tie.Need-returns-2
 unfolding advanceOf
@@ -108,16 +77,16 @@ pub advance-spec : {M : Type 1} → statement M
 advance-spec =
     tie.close
     (tie.spec
-    sub-q
-    mul-q
-    mul-q-2
-    add-q
-    mul-q-3
-    mul-q-4
-    add-q-2
-    passed-requires
+    (λ c. search needs)
+    (λ c. search needs)
+    (λ c. search needs)
+    (λ c. search needs)
+    (λ c. search needs)
+    (λ c. search needs)
+    (λ c. search needs)
+    (λ c κs. search needs)
     returns
-    wrapping-add-u8-requires
+    (λ c κs. search needs)
     returns-2
     returns-3
     returns-4

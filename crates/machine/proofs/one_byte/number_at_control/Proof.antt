@@ -2,8 +2,6 @@ use Rattle.machine.specs.Byte.{numberOf}
 use Rattle.chain.proofs.Tests.{tests}
 use Rattle.machine.proofs.one_byte.number_at_control.Statement.{statement}
 use Rattle.machine.proofs.one_byte.number_at_control.Tie as tie
-use Rattle.machine.proofs.one_byte.number_at_control.Reads as reads
-use Rattle.machine.proofs.one_byte.number_at_control.Lts as lts
 
 returns : tie.Need-returns
 unfolding numberOf

@@ -3,22 +3,6 @@ use Rattle.machine.specs.Byte.{numberOf}
 use borrow.Author.Needs.{needs}
 use Rattle.machine.proofs.one_byte.number_at_end.Statement.{statement}
 use Rattle.machine.proofs.one_byte.number_at_end.Tie as tie
-use Rattle.machine.proofs.one_byte.number_at_end.Reads as reads
-use Rattle.machine.proofs.one_byte.number_at_end.Lts as lts
-use Rattle.chain.proofs.eight.at8.Reads as at8-reads
-use Rattle.chain.proofs.kinds.size_of.Reads as size-of-reads
-
-at8-requires : tie.Need-at8-requires
-at8-requires c κs = search needs
-
-size-of-requires : tie.Need-size-of-requires
-size-of-requires c κs = search needs
-
-mul-end : tie.Need-mul-end
-mul-end c = search needs
-
-add-end : tie.Need-add-end
-add-end c = search needs
 
 returns : tie.Need-returns
 unfolding numberOf
@@ -34,4 +18,4 @@ returns-3 c = simp ((c .before .before .before .before .before .before .before .
 
 pub number-at-end-spec : {M : Type 1} → statement M
 number-at-end-spec =
-    tie.close (tie.spec at8-requires size-of-requires mul-end add-end returns returns-2 returns-3)
+    tie.close (tie.spec (λ c κs. search needs) (λ c κs. search needs) (λ c. search needs) (λ c. search needs) returns returns-2 returns-3)

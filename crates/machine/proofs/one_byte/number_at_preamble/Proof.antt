@@ -4,10 +4,6 @@ use Rattle.machine.specs.Byte.{numberOf}
 use borrow.Author.Needs.{needs}
 use Rattle.machine.proofs.one_byte.number_at_preamble.Statement.{statement}
 use Rattle.machine.proofs.one_byte.number_at_preamble.Tie as tie
-use Rattle.machine.proofs.one_byte.number_at_preamble.Reads as reads
-use Rattle.machine.proofs.one_byte.number_at_preamble.Lts as lts
-use Rattle.chain.proofs.eight.at8.Reads as at8-reads
-use Rattle.machine.proofs.one_byte.begun.Reads as begun-reads
 
 returns : tie.Need-returns
 unfolding numberOf
@@ -17,16 +13,10 @@ returns-2 : tie.Need-returns-2
 unfolding numberOf
 returns-2 c = simp ((c .before .before .before .pre)) (search tests)
 
-at8-requires : tie.Need-at8-requires
-at8-requires c κs = search needs
-
-begun-requires : tie.Need-begun-requires
-begun-requires c κs = search needs
-
 returns-3 : tie.Need-returns-3
 unfolding numberOf
 returns-3 c = (c .begun .ensures) ∙ simp ((c .before .before .before .before .before .before .pre), ← (c .before .at8 .ensures)) (search tests)
 
 pub number-at-preamble-spec : {M : Type 1} → statement M
 number-at-preamble-spec =
-    tie.close (tie.spec returns returns-2 at8-requires begun-requires returns-3)
+    tie.close (tie.spec returns returns-2 (λ c κs. search needs) (λ c κs. search needs) returns-3)

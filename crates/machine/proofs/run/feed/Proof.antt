@@ -7,10 +7,6 @@ use Rattle.machine.specs.Run.{Run, run, runOf}
 use Rattle.machine.proofs.Feed.{run-at, run-end, run-over, run-rest}
 use Rattle.machine.proofs.run.feed.Statement.{statement}
 use Rattle.machine.proofs.run.feed.Tie as tie
-use Rattle.machine.proofs.run.feed.Reads as reads
-use Rattle.machine.proofs.run.feed.Lts as lts
-use Rattle.machine.proofs.run.blocks.Reads as blocks-reads
-use Rattle.machine.proofs.run.step.Reads as step-reads
 
 abbrev Inv-loop : tie.InvT-loop
 Inv-loop mem₀ s n d₀ i₀ mem d i = (i ≤ n) × (length mem ≡ length mem₀) × (runOf (run d₀ mem₀ more) s ≡ runOf (run d mem more) (drop i s))
@@ -21,36 +17,9 @@ abbrev μ-loop : tie.MeasureT-loop
 loop-holds : tie.Need-loop-holds Inv-loop μ-loop
 loop-holds c = (search needs, refl, refl)
 
-sub-blocks : tie.Need-sub-blocks Inv-loop μ-loop
-sub-blocks c = search needs
-
-part-blocks-start : tie.Need-part-blocks-start Inv-loop μ-loop
-part-blocks-start c = search needs
-
-part-blocks-end : tie.Need-part-blocks-end Inv-loop μ-loop
-part-blocks-end c = search needs
-
-blocks-requires : tie.Need-blocks-requires Inv-loop μ-loop
-blocks-requires c κs = search needs
-
-add-i : tie.Need-add-i Inv-loop μ-loop
-add-i c = search needs
-
-same-length : tie.Need-same-length Inv-loop μ-loop
-same-length c = search needs
-
 returns : tie.Need-returns Inv-loop μ-loop
 returns c = let l = c .before .before .before .before .before .before .before .before .before .loop in let s = c .before .before .before .before .before .before .before .before .before .before .before .before .args .s .now in let f = c .before .before .before .before .before .blocks2 in
     l .inv .2 ∙ run-rest (l .d) (l .mem) s (l .i) (f .result .used) _ (f .ensures .1) ∙ run-end (f .result .chain) (f .last .1 .0) s (l .i + f .result .used) (search needs)
-
-shared-slice-read-b : tie.Need-shared-slice-read-b Inv-loop μ-loop
-shared-slice-read-b c = search needs
-
-add-i-2 : tie.Need-add-i-2 Inv-loop μ-loop
-add-i-2 c = search needs
-
-step-requires : tie.Need-step-requires Inv-loop μ-loop
-step-requires c κs = search needs
 
 same-length-2 : tie.Need-same-length-2 Inv-loop μ-loop
 same-length-2 c = let l = c .before .before .before .before .before .before .before .before .before .before .before .before .before .before .before .before .loop in c .before .before .before .mem2 .given ∙ c .before .before .before .before .before .before .before .before .before .before .before .mem .given ∙ l .inv .1
@@ -62,9 +31,6 @@ returns-2 c = let l = c .before .before .before .before .before .before .before 
     ∙ ap (λ (x : Run). runOf x (drop (l .i + f .result .used + 1) s)) (c .before .before .before .before .step .ensures)
     ∙ run-over (drop (l .i + f .result .used + 1) s) _ (c .if2 .taken)
 
-loop-less : tie.Need-loop-less Inv-loop μ-loop
-loop-less c = search needs
-
 loop-again : tie.Need-loop-again Inv-loop μ-loop
 loop-again c = let l = c .before .before .before .before .before .before .before .before .before .before .before .before .before .before .before .before .before .loop in let s = c .before .before .before .before .before .before .before .before .before .before .before .before .before .before .before .before .before .before .before .before .args .s .now in let f = c .before .before .before .before .before .before .before .before .before .before .before .before .before .blocks2 in (
   search needs,
@@ -73,9 +39,6 @@ loop-again c = let l = c .before .before .before .before .before .before .before
       ∙ run-at (f .result .chain) (f .last .1 .0) s (l .i + f .result .used) (search needs)
       ∙ ap (λ (x : Run). runOf x (drop (l .i + f .result .used + 1) s)) (c .before .before .before .before .before .step .ensures ∙ rw (c .before .if2 .left)),
 )
-
-same-length-3 : tie.Need-same-length-3 Inv-loop μ-loop
-same-length-3 c = search needs
 
 returns-3 : tie.Need-returns-3 Inv-loop μ-loop
 returns-3 c = let l = c .before .loop in l .inv .2 ∙ run-end (l .d) (l .mem) (c .before .before .before .before .args .s .now) (l .i) (search needs)
@@ -87,19 +50,19 @@ feed-spec =
     Inv-loop
     μ-loop
     loop-holds
-    sub-blocks
-    part-blocks-start
-    part-blocks-end
-    blocks-requires
-    add-i
-    same-length
+    (λ c. search needs)
+    (λ c. search needs)
+    (λ c. search needs)
+    (λ c κs. search needs)
+    (λ c. search needs)
+    (λ c. search needs)
     returns
-    shared-slice-read-b
-    add-i-2
-    step-requires
+    (λ c. search needs)
+    (λ c. search needs)
+    (λ c κs. search needs)
     same-length-2
     returns-2
-    loop-less
+    (λ c. search needs)
     loop-again
-    same-length-3
+    (λ c. search needs)
     returns-3)

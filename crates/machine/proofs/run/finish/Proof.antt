@@ -3,20 +3,14 @@ use Rattle.machine.specs.Calls.{fedOf}
 use borrow.Author.Needs.{needs}
 use Rattle.machine.proofs.run.finish.Statement.{statement}
 use Rattle.machine.proofs.run.finish.Tie as tie
-use Rattle.machine.proofs.run.finish.Reads as reads
-use Rattle.machine.proofs.run.finish.Lts as lts
-use Rattle.chain.proofs.closed_place.Reads as closed-place-reads
 
 returns : tie.Need-returns
 unfolding fedOf
 returns c = search tests
-
-closed-place-requires : tie.Need-closed-place-requires
-closed-place-requires c κs = search needs
 
 returns-2 : tie.Need-returns-2
 unfolding fedOf
 returns-2 c = simp ((c .closed-place .ensures)) (search tests)
 
 pub finish-spec : {M : Type 1} → statement M
-finish-spec = tie.close (tie.spec returns closed-place-requires returns-2)
+finish-spec = tie.close (tie.spec returns (λ c κs. search needs) returns-2)

@@ -4,12 +4,6 @@ use Rattle.machine.specs.Run.{registersOf}
 use borrow.Author.Needs.{needs}
 use Rattle.machine.proofs.run.registers_after.Statement.{statement}
 use Rattle.machine.proofs.run.registers_after.Tie as tie
-use Rattle.machine.proofs.run.registers_after.Reads as reads
-use Rattle.machine.proofs.run.registers_after.Lts as lts
-use Rattle.chain.proofs.eight.with8.Reads as with8-reads
-
-with8-requires : tie.Need-with8-requires
-with8-requires c κs = search needs
 
 returns : tie.Need-returns
 unfolding registersOf
@@ -24,4 +18,4 @@ unfolding registersOf
 returns-3 c = search tests
 
 pub registers-after-spec : {M : Type 1} → statement M
-registers-after-spec = tie.close (tie.spec with8-requires returns returns-2 returns-3)
+registers-after-spec = tie.close (tie.spec (λ c κs. search needs) returns returns-2 returns-3)

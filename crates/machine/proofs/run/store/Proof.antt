@@ -4,18 +4,6 @@ use Rattle.chain.proofs.Base.{store-past}
 use borrow.Author.Needs.{needs}
 use Rattle.machine.proofs.run.store.Statement.{statement}
 use Rattle.machine.proofs.run.store.Tie as tie
-use Rattle.machine.proofs.run.store.Reads as reads
-use Rattle.machine.proofs.run.store.Lts as lts
-use Rattle.machine.proofs.run.address.Reads as address-reads
-
-address-requires : tie.Need-address-requires
-address-requires c κs = search needs
-
-slice-write-mem : tie.Need-slice-write-mem
-slice-write-mem c = search needs
-
-same-length : tie.Need-same-length
-same-length c = search needs
 
 returns : tie.Need-returns
 unfolding memoryOf
@@ -36,4 +24,4 @@ returns-4 c = search tests
 pub store-spec : {M : Type 1} → statement M
 store-spec =
     tie.close
-    (tie.spec address-requires slice-write-mem same-length returns returns-2 returns-3 returns-4)
+    (tie.spec (λ c κs. search needs) (λ c. search needs) (λ c. search needs) returns returns-2 returns-3 returns-4)

@@ -1,8 +1,6 @@
 use borrow.Author.Tests.{eq-eqb, ne-eqb}
 use Rattle.machine.proofs.run.unlike.Statement.{statement}
 use Rattle.machine.proofs.run.unlike.Tie as tie
-use Rattle.machine.proofs.run.unlike.Reads as reads
-use Rattle.machine.proofs.run.unlike.Lts as lts
 
 returns : tie.Need-returns
 returns c = simp (eq-eqb _ _ (c .if1 .taken))
