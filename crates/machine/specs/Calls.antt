@@ -8,12 +8,13 @@ use lib.Dec.{eqb}
 use Rattle.chain.specs.declared.Chain.{Chain}
 use Rattle.chain.specs.declared.Place.{Place}
 use Rattle.chain.specs.declared.Made.{Made}
-use Rattle.chain.specs.Paper.{at·preamble, opened, writing, checking, first-mode, two-preambles, done, bad-mode, run-open, more}
+use Rattle.chain.specs.Paper.{at·preamble, closed, opened, writing, checking, first-mode, two-preambles, done, bad-mode, run-open, no-run, more}
 use Rattle.chain.specs.Rules.{pick, Rule, _gives_, firstOf, from}
 use Rattle.chain.specs.Set.{with·running, with·mode, with·check, with·awaited, with·place, closedPlace}
-use Rattle.chain.specs.State.{stateRules, feedNumber}
+use Rattle.chain.specs.State.{stateRules, openNumber, feedNumber}
 use Rattle.machine.specs.declared.Fed.{Fed}
-use Rattle.machine.specs.Run.{Run, run, runOf}
+use Rattle.machine.specs.Byte.{numberOf}
+use Rattle.machine.specs.Run.{ended, goneOn, Run, run, runOf}
 
 -- start: 1, 17, 2, 3
 abbrev pub startRules : Chain → ℕ → ℕ → List Rule
@@ -59,6 +60,29 @@ sliceOf c m s =
 unfoldable pub sliceMemory : Chain → List ℕ → List ℕ → List ℕ
 sliceMemory c m s = pick (eqb (feedNumber c (length m)) done) (runOf (run c m more) s .memory) m
 
+-- an open run dropped: 1, 17, 4; no cell and no register is touched
+unfoldable pub dropOf : Chain → ℕ → Made
+dropOf c len =
+    record {
+      chain = pick (eqb (openNumber c len) done) (with·place c closedPlace) c;
+      number = openNumber c len;
+    }
+
+-- for calls above the machine, which end a run with a number of their own: it is over at its last byte, which counts as taken; no cell
+-- and no register changes
+unfoldable pub refuseOf : Chain → ℕ → Fed
+refuseOf c n =
+    pick (eqb (c .place .running) closed) (unfed c no-run)
+    (answered (with·place c closedPlace) n (ended c .place .taken) (ended c .place .mismatches))
+
+-- and which look one byte ahead, with no memory lent: its number, and where the run would stand, as if its cell held it
+unfoldable pub aheadOf : Chain → ℕ → Made
+aheadOf c b =
+    record {
+      chain = pick (eqb (numberOf c b) more) (goneOn c 0 b) (ended c);
+      number = numberOf c b;
+    }
+
 -- what a reader may hold each call to: r is the answer, m′ the memory left
 pub record Start (c : Chain) (m : List ℕ) (mode check : ℕ) (r : Made) : Type 0 where
   pub made : r ≡ startOf c (length m) mode check
@@ -66,6 +90,9 @@ pub record Start (c : Chain) (m : List ℕ) (mode check : ℕ) (r : Made) : Type
 pub record Slice (c : Chain) (m s : List ℕ) (r : Fed) (m′ : List ℕ) : Type 0 where
   pub fed : r ≡ sliceOf c m s
   pub memory : m′ ≡ sliceMemory c m s
+
+pub record Drop (c : Chain) (m : List ℕ) (r : Made) : Type 0 where
+  pub made : r ≡ dropOf c (length m)
 
 -- a byte is a slice of one
 abbrev pub Byte : Chain → List ℕ → ℕ → Fed → List ℕ → Type 0

@@ -54,14 +54,18 @@ pub record Run : Type 0 where
 abbrev pub run : Chain → List ℕ → ℕ → Run
 run c m n = record { chain = c; memory = m; number = n }
 
-abbrev pub wentOn : Chain → List ℕ → ℕ → Chain
-wentOn c m b =
+-- a run goes on after the byte b, with k mismatches more
+abbrev pub goneOn : Chain → ℕ → ℕ → Chain
+goneOn c k b =
     record {
       count = c .count;
       kinds = c .kinds;
       registers = registersOf c b;
-      place = advanceOf (counted (c .place) 1 (missedOf c m b)) b;
+      place = advanceOf (counted (c .place) 1 k) b;
     }
+
+abbrev pub wentOn : Chain → List ℕ → ℕ → Chain
+wentOn c m b = goneOn c (missedOf c m b) b
 
 -- one byte: the run goes on, or it is over and the byte changes no cell and no register
 unfoldable pub stepOf : Chain → List ℕ → ℕ → Run

@@ -3,19 +3,23 @@ mod bulk;
 mod one_byte;
 mod run;
 
+use crate::one_byte::number;
 use crate::run::feed;
 use crate::run::finish;
+use crate::run::gone_on;
+use crate::run::over;
 use chain::Chain;
 use chain::Made;
 use chain::closed_place;
 use chain::paper::*;
 use chain::state::feed_number;
+use chain::state::open_number;
 use chain::state::state_number;
 ghost use mathlib.Core.Path.{_≡_};
 ghost use lib.Dec.{eqb};
 ghost use Rattle.chain.specs.Paper.{writing, checking};
 ghost use Rattle.chain.specs.Rules.{pick};
-ghost use Rattle.machine.specs.Calls.{Start, Slice, Byte, unfed};
+ghost use Rattle.machine.specs.Calls.{Start, Slice, Byte, Drop, unfed, refuseOf, aheadOf};
 
 // The number, and the run's bytes taken and mismatches so far.
 #[repr(C)]
@@ -96,10 +100,29 @@ pub fn slice(c: Chain, mem: &mut [u8], s: &[u8]) -> Fed
 {
     let n = feed_number(c, mem.len());
     if n == DONE {
-        let r = feed(c, mem, s);
-        return finish(r, mem);
+        return finish(feed(c, mem, s));
     }
     not_fed(c, n)
+}
+
+// Drops an open run: no cell and no register is touched, and what the run stored stays.
+pub fn drop(c: Chain, mem: &[u8]) -> Made
+    ensures { λ r. ⌜ Drop c (now (mem .entry)) r ⌝ }
+{
+    let n = open_number(c, mem.len());
+    if n != DONE {
+        return Made {
+            chain: c,
+            number: n,
+        };
+    }
+    let mut d = c;
+    let none = closed_place();
+    d.place = none;
+    Made {
+        chain: d,
+        number: DONE,
+    }
 }
 
 // One byte: a slice of one, so that the step has one place where it is called.
@@ -108,4 +131,42 @@ pub fn byte(c: Chain, mem: &mut [u8], b: u8) -> Fed
 {
     let one = [b];
     slice(c, mem, &one)
+}
+
+// For calls above the machine: ends an open run with a number of theirs. Its last byte counts as taken; no cell and no register changes.
+pub fn refuse(c: Chain, n: u8) -> Fed
+    ensures { λ r. ⌜ r ≡ refuseOf c n ⌝ }
+{
+    if c.place.running == CLOSED {
+        return not_fed(c, NO_RUN);
+    }
+    let e = over(c);
+    let answer = Answer {
+        number: n,
+        taken: e.place.taken,
+        mismatches: e.place.mismatches,
+    };
+    let mut d = c;
+    let none = closed_place();
+    d.place = none;
+    Fed { chain: d, answer }
+}
+
+// For calls above the machine: the number of a byte that is not fed yet, and where the run would stand after it.
+pub fn ahead(c: Chain, b: u8) -> Made
+    ensures { λ r. ⌜ r ≡ aheadOf c b ⌝ }
+{
+    let n = number(c, b);
+    if n != MORE {
+        let d = over(c);
+        return Made {
+            chain: d,
+            number: n,
+        };
+    }
+    let d = gone_on(c, 0, b);
+    Made {
+        chain: d,
+        number: MORE,
+    }
 }

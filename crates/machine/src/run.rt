@@ -10,6 +10,7 @@ use crate::bulk::span;
 use crate::one_byte::advance;
 use crate::one_byte::number;
 use chain::Chain;
+use chain::Made;
 use chain::closed_place;
 use chain::eight::at8;
 use chain::eight::with8;
@@ -17,17 +18,13 @@ use chain::kinds::base_of;
 use chain::kinds::size_of;
 use chain::paper::*;
 ghost use mathlib.Core.Path.{_≡_};
+ghost use mathlib.Core.List.{[]};
 ghost use Prim.Native.Nat.{_≤_, _<_};
 ghost use Rattle.chain.specs.Paper.{more};
-ghost use Rattle.machine.specs.Run.{addressOf, memoryOf, registersOf, missedOf, run, stepOf, runOf};
+ghost use Rattle.machine.specs.Run.{addressOf, memoryOf, registersOf, missedOf, ended, goneOn, run, stepOf, runOf};
 ghost use Rattle.machine.specs.Calls.{fedOf};
 ghost use Rattle.cells.specs.Differ.{unlikeOf};
 ghost use lib.ListN.{length, getD, drop};
-
-pub struct Stepped {
-    pub chain: Chain,
-    pub number: u8,
-}
 
 // The chain after some front bytes of a slice, and how many they were.
 struct Front {
@@ -100,34 +97,50 @@ fn store(c: Chain, mem: &mut [u8], b: u8)
     }
 }
 
+// The run is over at its last byte, which counts as taken.
+pub fn over(c: Chain) -> Chain
+    ensures { λ r. ⌜ r ≡ ended c ⌝ }
+{
+    let p = c.place;
+    let mut q = counting(p, 1, 0);
+    q.running = CLOSED;
+    let mut d = c;
+    d.place = q;
+    d
+}
+
+// The run goes on after the byte b, with k mismatches more.
+pub fn gone_on(c: Chain, k: u32, b: u8) -> Chain
+    ensures { λ r. ⌜ r ≡ goneOn c k b ⌝ }
+{
+    let p = c.place;
+    let q = advance(counting(p, 1, k), b);
+    let rs = registers_after(c, b);
+    let ks = c.kinds;
+    Chain {
+        count: c.count,
+        kinds: ks,
+        registers: rs,
+        place: q,
+    }
+}
+
 // One byte of an open run.
-fn step(c: Chain, mem: &mut [u8], b: u8) -> Stepped
+fn step(c: Chain, mem: &mut [u8], b: u8) -> Made
     ensures { λ r. ⌜ stepOf c (now (mem .entry)) b ≡ run (r .chain) (now (mem .exit)) (r .number) ⌝ }
 {
     let n = number(c, b);
-    let p = c.place;
     if n != MORE {
-        let mut q = counting(p, 1, 0);
-        q.running = CLOSED;
-        let mut d = c;
-        d.place = q;
-        return Stepped {
+        let d = over(c);
+        return Made {
             chain: d,
             number: n,
         };
     }
     let k = missed(c, mem, b);
-    let q = advance(counting(p, 1, k), b);
-    let rs = registers_after(c, b);
+    let d = gone_on(c, k, b);
     store(c, mem, b);
-    let ks = c.kinds;
-    let d = Chain {
-        count: c.count,
-        kinds: ks,
-        registers: rs,
-        place: q,
-    };
-    Stepped {
+    Made {
         chain: d,
         number: MORE,
     }
@@ -187,7 +200,7 @@ fn blocks(c: Chain, mem: &mut [u8], s: &[u8]) -> Front
 
 // Bytes of an open run, up to its end: blocks, and between them byte by byte. The step is called here alone, so that it is compiled
 // into the loop.
-pub fn feed(c: Chain, mem: &mut [u8], s: &[u8]) -> Stepped
+pub fn feed(c: Chain, mem: &mut [u8], s: &[u8]) -> Made
     ensures { λ r. ⌜ runOf (run c (now (mem .entry)) more) (now (s .entry)) ≡ run (r .chain) (now (mem .exit)) (r .number) ⌝ }
 {
     let n = s.len();
@@ -198,7 +211,7 @@ pub fn feed(c: Chain, mem: &mut [u8], s: &[u8]) -> Stepped
         d = f.chain;
         i += f.used;
         if n <= i {
-            return Stepped {
+            return Made {
                 chain: d,
                 number: MORE,
             };
@@ -211,15 +224,15 @@ pub fn feed(c: Chain, mem: &mut [u8], s: &[u8]) -> Stepped
         }
         d = r.chain;
     }
-    Stepped {
+    Made {
         chain: d,
         number: MORE,
     }
 }
 
 // The answer; a run that is over leaves no place.
-pub fn finish(r: Stepped, mem: &[u8]) -> Fed
-    ensures { λ f. ⌜ f ≡ fedOf (run (r .chain) (now (mem .entry)) (r .number)) ⌝ }
+pub fn finish(r: Made) -> Fed
+    ensures { λ f. ⌜ f ≡ fedOf (run (r .chain) [] (r .number)) ⌝ }
 {
     let mut d = r.chain;
     let answer = Answer {

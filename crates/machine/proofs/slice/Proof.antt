@@ -1,13 +1,20 @@
 use mathlib.Core.Path.{_∙_}
 use Rattle.chain.proofs.Tests.{tests}
-use Rattle.machine.specs.Calls.{sliceOf, sliceMemory}
+use Rattle.machine.specs.Calls.{fedOf, sliceOf, sliceMemory}
 use borrow.Author.Needs.{needs}
 use Rattle.machine.proofs.slice.Statement.{statement}
 use Rattle.machine.proofs.slice.Tie as tie
 
 returns : tie.Need-returns
-unfolding sliceOf sliceMemory
-returns c = record { fed = (c .finish .ensures) ∙ simp (← (c .before .before .before .before .before .before .before .feed-number .ensures), (c .before .before .before .before .before .before .if1 .taken), (c .before .before .before .before .feed .ensures)); memory = simp (← (c .before .before .before .before .before .before .before .feed-number .ensures), (c .before .before .before .before .before .before .if1 .taken), (c .before .before .before .before .feed .ensures)) }
+unfolding fedOf sliceOf sliceMemory
+returns c =
+    let d = c .before .before .before in
+    let if1 = d .before .before in
+    let n = if1 .before .feed-number .ensures in
+    record {
+      fed = c .finish .ensures ∙ simp (← n, if1 .if1 .taken, d .feed .ensures);
+      memory = simp (← n, if1 .if1 .taken, d .feed .ensures);
+    }
 
 returns-2 : tie.Need-returns-2
 unfolding sliceOf sliceMemory

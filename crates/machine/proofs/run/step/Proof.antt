@@ -6,11 +6,14 @@ use Rattle.machine.proofs.run.step.Tie as tie
 
 returns : tie.Need-returns
 unfolding stepOf
-returns c = simp (← (c .before .before .before .number .ensures), (c .counting .ensures)) (search tests)
+returns c = simp (← (c .before .before .number .ensures), c .over .ensures) (search tests)
 
 returns-2 : tie.Need-returns-2
 unfolding stepOf
-returns-2 c = simp (← (c .before .before .before .before .before .before .before .before .before .before .before .before .number .ensures), (c .before .before .before .before .before .before .before .before .before .before .if1 .left), (c .before .before .before .before .before .before .advance .ensures), (c .before .before .before .before .before .before .before .counting2 .ensures), (c .before .before .before .before .before .before .before .before .missed .ensures), (c .before .before .before .before .before .registers-after .ensures), (c .before .before .before .store .ensures))
+returns-2 c =
+    let g = c .before .before .before .before in
+    let n = g .before .before .before .before in
+    simp (← (n .number .ensures), g .before .before .before .if1 .left, g .gone-on .ensures, g .before .missed .ensures, c .before .before .store .ensures)
 
 pub step-spec : {M : Type 1} → statement M
 step-spec =
@@ -19,8 +22,6 @@ step-spec =
     (λ c κs. search needs)
     (λ c κs. search needs)
     returns
-    (λ c κs. search needs)
-    (λ c κs. search needs)
     (λ c κs. search needs)
     (λ c κs. search needs)
     (λ c κs. search needs)
