@@ -2,15 +2,16 @@
 use crate::one_byte::passed;
 use cells::copy;
 use cells::differ;
+use cells::least;
 use chain::Chain;
 use chain::Place;
 use chain::paper::*;
+use chain::window::width;
 ghost use mathlib.Core.Path.{_≡_};
-ghost use Prim.Native.Nat.{_+_, _-_, _*_, _≤_, _<_};
+ghost use Prim.Native.Nat.{_+_, _-_, _≤_, _<_};
 ghost use lib.ListN.{length};
 ghost use Rattle.chain.specs.Paper.{at·data, more};
 ghost use Rattle.machine.specs.Run.{addressOf, counted, run, runOf};
-ghost use Rattle.chain.specs.Window.{fitsOf};
 ghost use Rattle.machine.specs.Block.{laidOf, missesOf, Span, headedOf};
 ghost use Rattle.chain.specs.Set.{with·place};
 
@@ -56,36 +57,6 @@ pub fn bulk(c: Chain, mem: &mut [u8], at: usize, t: &[u8]) -> Chain
     d
 }
 
-// The data bytes that the window awaits; past its end, the one that ends it.
-fn awaited(next: u16, end: u16) -> usize
-    ensures { λ r. ⌜ (r ≡ end - next + 1) × (r ≤ 65536) ⌝ }
-{
-    if end < next {
-        return 1;
-    }
-    (end - next) as usize + 1
-}
-
-fn least(a: usize, b: usize) -> usize
-    ensures { λ r. ⌜ (r ≤ a) × (r ≤ b) ⌝ }
-{
-    if a < b { a } else { b }
-}
-
-// A number of two bytes, the high one first.
-pub fn pair(high: u8, low: u8) -> u16
-    ensures { λ r. ⌜ r ≡ high * 256 + low ⌝ }
-{
-    high as u16 * 256 + low as u16
-}
-
-// A window that a device of that size has.
-pub fn fits(size: u16, start: u16, end: u16) -> bool
-    ensures { λ r. ⌜ r ≡ fitsOf size start end ⌝ }
-{
-    (start < size) & (start <= end) & (end < size)
-}
-
 // The chain after a window's null byte, start and end.
 pub fn headed(c: Chain, start: u16, end: u16) -> Chain
     ensures { λ r. ⌜ r ≡ with·place c (headedOf (c .place) start end) ⌝ }
@@ -105,7 +76,7 @@ pub fn headed(c: Chain, start: u16, end: u16) -> Chain
 pub fn span(p: Place, at: usize, len: usize, have: usize) -> usize
     ensures { λ r. ⌜ Span p at len have r ⌝ }
 {
-    let most = least(awaited(p.next, p.end), have);
+    let most = least(width(p.next, p.end), have);
     if len < at {
         return 0;
     }

@@ -2,8 +2,9 @@
 use chain::Chain;
 use chain::Place;
 use chain::eight::at8;
-use chain::kinds::size_of;
+use chain::kinds::size_here;
 use chain::paper::*;
+use chain::window::with_low;
 ghost use Prim.Native.Nat.{_≤_};
 ghost use mathlib.Core.Bool.{_&&_};
 ghost use mathlib.Core.Path.{_≡_};
@@ -70,9 +71,7 @@ fn number_at_start(c: Chain, b: u8) -> u8
     requires { ⌜ c .place .awaited ≡ at·start-low ⌝ }
     ensures { λ r. ⌜ r ≡ numberOf c b ⌝ }
 {
-    let ks = c.kinds;
-    let size = size_of(at8(ks, c.place.device));
-    if c.place.start / 256 * 256 + (b as u16) < size {
+    if with_low(c.place.start, b) < size_here(c) {
         return MORE;
     }
     BAD_START
@@ -82,16 +81,11 @@ fn number_at_end(c: Chain, b: u8) -> u8
     requires { ⌜ c .place .awaited ≡ at·end-low ⌝ }
     ensures { λ r. ⌜ r ≡ numberOf c b ⌝ }
 {
-    let ks = c.kinds;
-    let size = size_of(at8(ks, c.place.device));
-    let end = c.place.end / 256 * 256 + b as u16;
-    if end < c.place.start {
+    let end = with_low(c.place.end, b);
+    if (end < c.place.start) | !(end < size_here(c)) {
         return BAD_END;
     }
-    if end < size {
-        return MORE;
-    }
-    BAD_END
+    MORE
 }
 
 fn number_at_check(c: Chain, b: u8) -> u8
@@ -203,7 +197,7 @@ pub fn advance(p: Place, b: u8) -> Place
             q.awaited = AT_START_LOW;
         }
         AT_START_LOW => {
-            q.start = p.start / 256 * 256 + b as u16;
+            q.start = with_low(p.start, b);
             q.awaited = AT_END;
         }
         AT_END => {
@@ -211,7 +205,7 @@ pub fn advance(p: Place, b: u8) -> Place
             q.awaited = AT_END_LOW;
         }
         AT_END_LOW => {
-            q.end = p.end / 256 * 256 + b as u16;
+            q.end = with_low(p.end, b);
             q.next = p.start;
             q.awaited = AT_DATA;
         }

@@ -3,27 +3,26 @@ use crate::Answer;
 use crate::Fed;
 use crate::bulk::bulk;
 use crate::bulk::counting;
-use crate::bulk::fits;
 use crate::bulk::headed;
-use crate::bulk::pair;
 use crate::bulk::span;
 use crate::one_byte::advance;
 use crate::one_byte::number;
+use cells::unlike;
 use chain::Chain;
 use chain::Made;
 use chain::closed_place;
-use chain::eight::at8;
 use chain::eight::with8;
 use chain::kinds::base_of;
-use chain::kinds::size_of;
+use chain::kinds::size_here;
 use chain::paper::*;
+use chain::window::fits;
+use chain::window::pair;
 ghost use mathlib.Core.Path.{_≡_};
 ghost use mathlib.Core.List.{[]};
 ghost use Prim.Native.Nat.{_≤_, _<_};
 ghost use Rattle.chain.specs.Paper.{more};
 ghost use Rattle.machine.specs.Run.{addressOf, memoryOf, registersOf, missedOf, ended, goneOn, run, stepOf, runOf};
 ghost use Rattle.machine.specs.Calls.{fedOf};
-ghost use Rattle.cells.specs.Differ.{unlikeOf};
 ghost use lib.ListN.{length, getD, drop};
 
 // The chain after some front bytes of a slice, and how many they were.
@@ -48,7 +47,7 @@ fn missed(c: Chain, mem: &[u8], b: u8) -> u32
 {
     if c.place.awaited == AT_DATA {
         if c.place.check == CHECKING {
-            return unlike(cell(mem, address(c)), b);
+            return unlike(cell(mem, address(c)), b) as u32;
         }
         return 0;
     }
@@ -60,12 +59,6 @@ fn cell(mem: &[u8], at: usize) -> u8
     ensures { λ r. ⌜ r ≡ getD (now (mem .entry)) at 0 ⌝ }
 {
     if at < mem.len() { mem[at] } else { 0 }
-}
-
-fn unlike(a: u8, b: u8) -> u32
-    ensures { λ r. ⌜ r ≡ unlikeOf a b ⌝ }
-{
-    if a == b { 0 } else { 1 }
 }
 
 // In a write the control byte is loaded.
@@ -159,7 +152,7 @@ fn blocks(c: Chain, mem: &mut [u8], s: &[u8]) -> Front
     }
     let ks = c.kinds;
     let device = c.place.device;
-    let size = size_of(at8(ks, device));
+    let size = size_here(c);
     let base = base_of(ks, device);
     let n = s.len();
     let mut d = c;

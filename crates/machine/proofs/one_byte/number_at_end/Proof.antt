@@ -6,16 +6,11 @@ use Rattle.machine.proofs.one_byte.number_at_end.Tie as tie
 
 returns : tie.Need-returns
 unfolding numberOf
-returns c = simp ((c .before .before .before .before .before .before .pre), ← (c .before .before .before .before .at8 .ensures), ← (c .before .before .before .size-of .ensures)) (search tests)
+returns c = simp (c .before .before .before .before .pre, ← (c .before .before .before .with-low .ensures), ← (c .before .size-here .ensures), c .if1 .taken) (search tests)
 
 returns-2 : tie.Need-returns-2
 unfolding numberOf
-returns-2 c = simp ((c .before .before .before .before .before .before .before .pre), ← (c .before .before .before .before .before .at8 .ensures), ← (c .before .before .before .before .size-of .ensures)) (search tests)
-
-returns-3 : tie.Need-returns-3
-unfolding numberOf
-returns-3 c = simp ((c .before .before .before .before .before .before .before .pre), ← (c .before .before .before .before .before .at8 .ensures), ← (c .before .before .before .before .size-of .ensures)) (search tests)
+returns-2 c = simp (c .before .before .before .before .pre, ← (c .before .before .before .with-low .ensures), ← (c .before .size-here .ensures), c .if1 .left) (search tests)
 
 pub number-at-end-spec : {M : Type 1} → statement M
-number-at-end-spec =
-    tie.close (tie.spec (λ c κs. search needs) (λ c κs. search needs) (λ c. search needs) (λ c. search needs) returns returns-2 returns-3)
+number-at-end-spec = tie.close (tie.spec (λ c κs. search needs) (λ c κs. search needs) returns returns-2)

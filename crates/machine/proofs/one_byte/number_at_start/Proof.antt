@@ -6,12 +6,11 @@ use Rattle.machine.proofs.one_byte.number_at_start.Tie as tie
 
 returns : tie.Need-returns
 unfolding numberOf
-returns c = simp ((c .before .before .before .before .before .pre), ← (c .before .before .before .at8 .ensures), ← (c .before .before .size-of .ensures)) (search tests)
+returns c = simp (c .before .before .before .pre, ← (c .before .before .with-low .ensures), ← (c .before .size-here .ensures)) (search tests)
 
 returns-2 : tie.Need-returns-2
 unfolding numberOf
-returns-2 c = simp ((c .before .before .before .before .before .pre), ← (c .before .before .before .at8 .ensures), ← (c .before .before .size-of .ensures)) (search tests)
+returns-2 c = simp (c .before .before .before .pre, ← (c .before .before .with-low .ensures), ← (c .before .size-here .ensures)) (search tests)
 
 pub number-at-start-spec : {M : Type 1} → statement M
-number-at-start-spec =
-    tie.close (tie.spec (λ c κs. search needs) (λ c κs. search needs) (λ c. search needs) (λ c. search needs) returns returns-2)
+number-at-start-spec = tie.close (tie.spec (λ c κs. search needs) (λ c κs. search needs) returns returns-2)

@@ -7,7 +7,7 @@ use lib.ListN.{length, take, drop, length-drop}
 use lib.Seq.{length-take-le}
 use Rattle.chain.specs.declared.Chain.{Chain}
 use Rattle.chain.specs.Paper.{more}
-use Rattle.chain.specs.Kinds.{sizeOf, baseOf, sizeHere}
+use Rattle.chain.specs.Kinds.{baseOf, sizeHere}
 use Rattle.chain.specs.Window.{fitsOf}
 use Rattle.machine.specs.Run.{run, runOf, addressOf}
 use Rattle.machine.proofs.Feed.{run-part}
@@ -36,14 +36,20 @@ abbrev μ-loop : tie.MeasureT-loop
 μ-loop mem₀ s a device size base n d₀ i₀ mem d i = n - i
 
 loop-holds : tie.Need-loop-holds Inv-loop μ-loop
-loop-holds c = (search needs, refl, refl, c .base-of .ensures .1, c .before .size-of .ensures ∙ ap sizeOf (c .before .before .at8 .ensures), c .base-of .ensures .0)
+loop-holds c = (search needs, refl, refl, c .base-of .ensures .1, c .before .size-here .ensures, c .base-of .ensures .0)
 
 bulk-requires : tie.Need-bulk-requires Inv-loop μ-loop
 unfolding addressOf
-bulk-requires c κs = let l = c .before .before .before .before .before .before .before .before .before .loop in let s = c .before .before .before .before .before .before .before .before .before .before .before .before .before .before .before .before .before .args .s .now in let p = c .before .before .before .span in
-    let w : length (take (l .i + p .result - l .i) (drop (l .i) s)) ≡ p .result = part-length s (l .i) (p .result) (omega (arith, p .ensures .given)) in (
-      c .before .before .before .before .before .before .if2 .taken,
-      ap (λ (x : ℕ). x + l .d .place .next) (l .inv .5),
+bulk-requires c κs =
+    let spanned = c .before .before .before in
+    let turn = spanned .before .before .before .before .before .before in
+    let entry = turn .before .before .before .before .before .before .before in
+    let p = spanned .span in
+    let i = turn .loop .i in
+    let w : length (take (i + p .result - i) (drop i (entry .args .s .now))) ≡ p .result =
+    part-length (entry .args .s .now) i (p .result) (omega (arith, p .ensures .given)) in (
+      spanned .before .before .before .if2 .taken,
+      ap (λ (x : ℕ). x + turn .loop .d .place .next) (turn .loop .inv .5),
       omega (arith, w, c .before .before .if3 .taken),
       omega (arith, w, p .ensures .window),
       omega (arith, w, p .ensures .inside, c .before .before .if3 .taken),
@@ -51,27 +57,44 @@ bulk-requires c κs = let l = c .before .before .before .before .before .before 
     )
 
 loop-again : tie.Need-loop-again Inv-loop μ-loop
-loop-again c = let l = c .before .before .before .before .before .before .before .before .before .before .before .before .loop in let f = c .before .before .bulk in let same = f .ensures .1 in (
-  search needs,
-  search needs,
-  l .inv .2 ∙ run-part (l .d) (l .mem) (c .before .before .before .before .before .before .before .before .before .before .before .before .before .before .before .before .before .before .before .before .args .s .now) (l .i) (c .before .before .before .before .before .before .span .result) _ (f .ensures .0),
-  l .inv .3,
-  l .inv .4 ∙ same-size (l .d) (f .result) (same .0) (same .1),
-  l .inv .5 ∙ same-base (l .d) (f .result) (same .0) (same .1),
-)
+loop-again c =
+    let spanned = c .before .before .before .before .before .before in
+    let turn = spanned .before .before .before .before .before .before in
+    let entry = turn .before .before .before .before .before .before .before in
+    let l = turn .loop in
+    let f = c .before .before .bulk in
+    let same = f .ensures .1 in (
+      search needs,
+      search needs,
+      l .inv .2 ∙ run-part (l .d) (l .mem) (entry .args .s .now) (l .i) (spanned .span .result) _ (f .ensures .0),
+      l .inv .3,
+      l .inv .4 ∙ same-size (l .d) (f .result) (same .0) (same .1),
+      l .inv .5 ∙ same-base (l .d) (f .result) (same .0) (same .1),
+    )
 
 loop-again-2 : tie.Need-loop-again-2 Inv-loop μ-loop
-loop-again-2 c = let l = c .before .before .before .before .before .before .before .before .before .before .before .before .before .before .before .loop in let s = c .before .before .before .before .before .before .before .before .before .before .before .before .before .before .before .before .before .before .before .before .before .before .before .args .s .now in let h = sym (c .headed .ensures) in (
-  search needs,
-  search needs,
-  l .inv .2
-      ∙ run-part (l .d) (l .mem) s (l .i) 5 _
-      (header-part (l .d) (l .mem) s (l .i) (c .before .before .before .before .before .before .pair .result) (c .before .before .before .pair2 .result) (search needs) (c .before .before .before .before .before .before .before .before .before .before .if4 .left) (c .before .before .before .before .before .before .pair .ensures) (c .before .before .before .pair2 .ensures) (ap (λ (x : ℕ). fitsOf x (c .before .before .before .before .before .before .pair .result) (c .before .before .before .pair2 .result)) (sym (l .inv .4)) ∙ sym (c .before .before .fits2 .ensures) ∙ c .before .if6 .taken))
-      ∙ ap (λ (x : Chain). runOf (run x (l .mem) more) (drop (l .i + 5) s)) h,
-  l .inv .3,
-  l .inv .4 ∙ ap sizeHere h,
-  l .inv .5 ∙ ap (λ (x : Chain). baseOf (x .kinds) (x .place .device)) h,
-)
+loop-again-2 c =
+    let second = c .before .before .before in
+    let first = second .before .before .before in
+    let null = first .before .before .before .before in
+    let turn = null .before .before .before .before .before in
+    let entry = turn .before .before .before .before .before .before .before in
+    let l = turn .loop in
+    let s = entry .args .s .now in
+    let start = first .pair in
+    let end = second .pair2 in
+    let h = sym (c .headed .ensures) in (
+      search needs,
+      search needs,
+      l .inv .2
+          ∙ run-part (l .d) (l .mem) s (l .i) 5 _
+          (header-part (l .d) (l .mem) s (l .i) (start .result) (end .result) (search needs) (null .if4 .left) (start .ensures) (end .ensures)
+          (ap (λ (x : ℕ). fitsOf x (start .result) (end .result)) (sym (l .inv .4)) ∙ sym (c .before .before .fits2 .ensures) ∙ c .before .if6 .taken))
+          ∙ ap (λ (x : Chain). runOf (run x (l .mem) more) (drop (l .i + 5) s)) h,
+      l .inv .3,
+      l .inv .4 ∙ ap sizeHere h,
+      l .inv .5 ∙ ap (λ (x : Chain). baseOf (x .kinds) (x .place .device)) h,
+    )
 
 pub blocks-spec : {M : Type 1} → statement M
 blocks-spec =
@@ -80,7 +103,6 @@ blocks-spec =
     Inv-loop
     μ-loop
     (λ c. search needs)
-    (λ c κs. search needs)
     (λ c κs. search needs)
     (λ c κs. search needs)
     loop-holds

@@ -7,7 +7,7 @@ use Rattle.machine.proofs.run.missed.Tie as tie
 
 returns : tie.Need-returns
 unfolding missedOf
-returns c = (c .unlike .ensures) ∙ simp ((c .before .cell .ensures), (c .before .before .address .ensures .0)) (search tests)
+returns c = (c .unlike .ensures .0) ∙ simp ((c .before .cell .ensures), (c .before .before .address .ensures .0)) (search tests)
 
 returns-2 : tie.Need-returns-2
 unfolding missedOf
@@ -19,4 +19,4 @@ returns-3 c = search tests
 
 pub missed-spec : {M : Type 1} → statement M
 missed-spec =
-    tie.close (tie.spec (λ c κs. search needs) (λ c κs. search needs) (λ c κs. search needs) returns returns-2 returns-3)
+    tie.close (tie.spec (λ c κs. search needs) (λ c κs. search needs) (λ c κs. search needs) (λ c. search needs) returns returns-2 returns-3)
