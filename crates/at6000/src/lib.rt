@@ -10,7 +10,7 @@ use machine::Fed;
 ghost use mathlib.Core.Path.{_≡_};
 ghost use Rattle.at6000.specs.InPlace.{StartIn, SliceIn, PickUpIn};
 ghost use Rattle.chain.specs.Calls.{New, Reset};
-ghost use Rattle.machine.specs.Calls.{Start, Slice, Byte};
+ghost use Rattle.machine.specs.Calls.{Start, Slice, Byte, Drop};
 ghost use Rattle.closing.specs.Calls.{Closing};
 ghost use Rattle.saved.specs.Calls.{Save, PickUp};
 ghost use Rattle.hunt.specs.Hunt.{Hunt};
@@ -51,6 +51,13 @@ pub extern "C" fn at6000_slice(c: Chain, mem: &mut [u8], s: &[u8]) -> Fed
     ensures { λ r. ⌜ Slice c (now (mem .entry)) (now (s .entry)) r (now (mem .exit)) ⌝ }
 {
     machine::slice(c, mem, s)
+}
+
+#[no_mangle]
+pub extern "C" fn at6000_drop(c: Chain, mem: &[u8]) -> Made
+    ensures { λ r. ⌜ Drop c (now (mem .entry)) r ⌝ }
+{
+    machine::drop(c, mem)
 }
 
 #[no_mangle]

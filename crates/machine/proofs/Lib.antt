@@ -15,3 +15,4 @@ pub mod Keeps
 pub mod Started
 pub mod Slices
 pub mod Append
+pub mod Above

@@ -117,8 +117,8 @@ pub fn drop(c: Chain, mem: &[u8]) -> Made
         };
     }
     let mut d = c;
-    let none = closed_place();
-    d.place = none;
+    let closed = closed_place();
+    d.place = closed;
     Made {
         chain: d,
         number: DONE,
