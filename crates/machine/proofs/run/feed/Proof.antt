@@ -18,27 +18,51 @@ loop-holds : tie.Need-loop-holds Inv-loop μ-loop
 loop-holds c = (search needs, refl, refl)
 
 returns : tie.Need-returns Inv-loop μ-loop
-returns c = let l = c .before .before .before .before .before .before .before .before .before .loop in let s = c .before .before .before .before .before .before .before .before .before .before .before .before .args .s .now in let f = c .before .before .before .before .before .blocks2 in
+returns c =
+    let front = c .before .before .before .before .before in
+    let turn = front .before .before .before .before in
+    let entry = turn .before .before .before in
+    let l = turn .loop in
+    let s = entry .args .s .now in
+    let f = front .blocks2 in
     l .inv .2 ∙ run-rest (l .d) (l .mem) s (l .i) (f .result .used) _ (f .ensures .1) ∙ run-end (f .result .chain) (f .last .1 .0) s (l .i + f .result .used) (search needs)
 
 same-length-2 : tie.Need-same-length-2 Inv-loop μ-loop
-same-length-2 c = let l = c .before .before .before .before .before .before .before .before .before .before .before .before .before .before .before .before .loop in c .before .before .before .mem2 .given ∙ c .before .before .before .before .before .before .before .before .before .before .before .mem .given ∙ l .inv .1
+same-length-2 c =
+    let stepped = c .before .before .before in
+    let front = stepped .before .before .before .before .before .before .before .before in
+    let turn = front .before .before .before .before .before in
+    stepped .mem2 .given ∙ front .mem .given ∙ turn .loop .inv .1
 
 returns-2 : tie.Need-returns-2 Inv-loop μ-loop
-returns-2 c = let l = c .before .before .before .before .before .before .before .before .before .before .before .before .before .before .before .before .loop in let s = c .before .before .before .before .before .before .before .before .before .before .before .before .before .before .before .before .before .before .before .args .s .now in let f = c .before .before .before .before .before .before .before .before .before .before .before .before .blocks2 in
+returns-2 c =
+    let stepped = c .before .before .before .before in
+    let front = stepped .before .before .before .before .before .before .before .before in
+    let turn = front .before .before .before .before in
+    let entry = turn .before .before .before in
+    let l = turn .loop in
+    let s = entry .args .s .now in
+    let f = front .blocks2 in
     l .inv .2 ∙ run-rest (l .d) (l .mem) s (l .i) (f .result .used) _ (f .ensures .1)
     ∙ run-at (f .result .chain) (f .last .1 .0) s (l .i + f .result .used) (search needs)
-    ∙ ap (λ (x : Run). runOf x (drop (l .i + f .result .used + 1) s)) (c .before .before .before .before .step .ensures)
+    ∙ ap (λ (x : Run). runOf x (drop (l .i + f .result .used + 1) s)) (stepped .step .ensures)
     ∙ run-over (drop (l .i + f .result .used + 1) s) _ (c .if2 .taken)
 
 loop-again : tie.Need-loop-again Inv-loop μ-loop
-loop-again c = let l = c .before .before .before .before .before .before .before .before .before .before .before .before .before .before .before .before .before .loop in let s = c .before .before .before .before .before .before .before .before .before .before .before .before .before .before .before .before .before .before .before .before .args .s .now in let f = c .before .before .before .before .before .before .before .before .before .before .before .before .before .blocks2 in (
-  search needs,
-  c .before .before .before .before .mem2 .given ∙ c .before .before .before .before .before .before .before .before .before .before .before .before .mem .given ∙ l .inv .1,
-  l .inv .2 ∙ run-rest (l .d) (l .mem) s (l .i) (f .result .used) _ (f .ensures .1)
-      ∙ run-at (f .result .chain) (f .last .1 .0) s (l .i + f .result .used) (search needs)
-      ∙ ap (λ (x : Run). runOf x (drop (l .i + f .result .used + 1) s)) (c .before .before .before .before .before .step .ensures ∙ rw (c .before .if2 .left)),
-)
+loop-again c =
+    let stepped = c .before .before .before .before .before in
+    let front = stepped .before .before .before .before .before .before .before .before in
+    let turn = front .before .before .before .before in
+    let entry = turn .before .before .before in
+    let l = turn .loop in
+    let s = entry .args .s .now in
+    let f = front .blocks2 in (
+      search needs,
+      c .before .before .before .before .mem2 .given ∙ stepped .before .before .before .before .before .before .before .mem .given ∙ l .inv .1,
+      l .inv .2 ∙ run-rest (l .d) (l .mem) s (l .i) (f .result .used) _ (f .ensures .1)
+          ∙ run-at (f .result .chain) (f .last .1 .0) s (l .i + f .result .used) (search needs)
+          ∙ ap (λ (x : Run). runOf x (drop (l .i + f .result .used + 1) s)) (stepped .step .ensures ∙ rw (c .before .if2 .left)),
+    )
 
 returns-3 : tie.Need-returns-3 Inv-loop μ-loop
 returns-3 c = let l = c .before .loop in l .inv .2 ∙ run-end (l .d) (l .mem) (c .before .before .before .before .args .s .now) (l .i) (search needs)
