@@ -67,6 +67,16 @@ run-by P Q goes stops (b ∷ bs) small c m x =
     let g = eqb-false (numberOf c b) more e in
     rw (run-ended c m b bs g) (record { going = λ n. absurd (g n); over = λ _. stops c m b g x }))
 
+-- a relation of a run to a later one that each byte keeps, a run of them keeps
+pub run-keeps : (R : Run → Run → Type 0) → ((r : Run) → R r r) → ((r s t : Run) → R r s → R s t → R r t)
+    → ((r : Run) (b : ℕ) → R r (stepOf (r .chain) (r .memory) b)) → (bs : List ℕ) (r : Run) → R r (runOf r bs)
+unfolding runOf
+run-keeps R same both step [] r = same r
+run-keeps R same both step (b ∷ bs) r =
+    both r (onByte r b) (runOf (onByte r b) bs)
+    (either-way (R r) (eqb (r .number) more) (stepOf (r .chain) (r .memory) b) r (step r b) (same r))
+    (run-keeps R same both step bs (onByte r b))
+
 -- ---- what no byte changes, whether the run goes on or not
 
 pub record Lasts (r s : Run) : Type 0 where
@@ -78,9 +88,6 @@ pub record Lasts (r s : Run) : Type 0 where
 stored-length : (t : Bool) (l : List ℕ) (i b : ℕ) → length (pick t (set l i b) l) ≡ length l
 stored-length t l i b = either-way (λ (k : List ℕ). length k ≡ length l) t (set l i b) l (length-set l i b) refl
 
-same-run : (r : Run) → Lasts r r
-same-run r = record { count = refl; kinds = refl; registers = refl; memory = refl }
-
 module _ (c : Chain) (m : List ℕ) (b : ℕ) where
   pub memory-length : length (memoryOf c m b) ≡ length m
   unfolding memoryOf
@@ -90,30 +97,18 @@ module _ (c : Chain) (m : List ℕ) (b : ℕ) where
   unfolding registersOf
   registers-length = stored-length (awaits c at·control && loads c) (c .registers) (c .place .device) b
 
-  step-lasts : (n : ℕ) → Lasts (run c m n) (stepOf c m b)
-  unfolding stepOf
-  step-lasts n =
-      either-way (Lasts (run c m n)) (eqb (numberOf c b) more) (run (wentOn c m b) (memoryOf c m b) more) (run (ended c) m (numberOf c b))
-      (record { count = refl; kinds = refl; registers = registers-length; memory = memory-length })
-      (record { count = refl; kinds = refl; registers = refl; memory = refl })
-
-byte-lasts : (r : Run) (b : ℕ) → Lasts r (onByte r b)
-byte-lasts r b =
-    either-way (Lasts r) (eqb (r .number) more) (stepOf (r .chain) (r .memory) b) r
-    (step-lasts (r .chain) (r .memory) b (r .number)) (same-run r)
+pub step-lasts : (r : Run) (b : ℕ) → Lasts r (stepOf (r .chain) (r .memory) b)
+unfolding stepOf
+step-lasts r b =
+    let c = r .chain in
+    let m = r .memory in
+    either-way (Lasts r) (eqb (numberOf c b) more) (run (wentOn c m b) (memoryOf c m b) more) (run (ended c) m (numberOf c b))
+    (record { count = refl; kinds = refl; registers = registers-length c m b; memory = memory-length c m b })
+    (record { count = refl; kinds = refl; registers = refl; memory = refl })
 
 pub run-lasts : (bs : List ℕ) (r : Run) → Lasts r (runOf r bs)
-unfolding runOf
-run-lasts [] r = same-run r
-run-lasts (b ∷ bs) r =
-    let s = byte-lasts r b in
-    let t = run-lasts bs (onByte r b) in
-    record {
-      count = t .count ∙ s .count;
-      kinds = t .kinds ∙ s .kinds;
-      registers = t .registers ∙ s .registers;
-      memory = t .memory ∙ s .memory;
-    }
-
-pub run-length : (bs : List ℕ) (r : Run) → length (runOf r bs .memory) ≡ length (r .memory)
-run-length bs r = run-lasts bs r .memory
+run-lasts =
+    run-keeps Lasts
+    (λ r. record { count = refl; kinds = refl; registers = refl; memory = refl })
+    (λ r s t x y. record { count = y .count ∙ x .count; kinds = y .kinds ∙ x .kinds; registers = y .registers ∙ x .registers; memory = y .memory ∙ x .memory })
+    step-lasts
