@@ -1,4 +1,4 @@
-// Blocks of bytes: one copied over another, and in how many places two differ. Both go as far as the shorter of the two.
+// Bytes and blocks of bytes: one block copied over another, and in how many places two differ, both as far as the shorter of the two goes.
 ghost use mathlib.Core.Path.{_≡_};
 ghost use Prim.Native.Nat.{_≤_, _<_};
 ghost use lib.ListN.{length};
@@ -6,7 +6,8 @@ ghost use lib.Seq.{sets};
 ghost use mathlib.Core.Logic.{_⊎_};
 ghost use Rattle.cells.specs.Differ.{unlikeOf, differs};
 
-fn least(a: usize, b: usize) -> usize
+// The smaller of two lengths or positions.
+pub fn least(a: usize, b: usize) -> usize
     ensures { λ r. ⌜ (r ≤ a) × (r ≤ b) × ((r ≡ a) ⊎ (r ≡ b)) ⌝ }
 {
     if a < b { a } else { b }
@@ -24,7 +25,8 @@ pub fn copy(dst: &mut [u8], src: &[u8])
     }
 }
 
-fn unlike(a: u8, b: u8) -> u8
+// 1 where two bytes differ, else 0.
+pub fn unlike(a: u8, b: u8) -> u8
     ensures { λ r. ⌜ (r ≡ unlikeOf a b) × (r ≤ 1) ⌝ }
 {
     if a == b { 0 } else { 1 }
