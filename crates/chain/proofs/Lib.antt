@@ -9,7 +9,9 @@ pub mod Base
 pub mod Sizes
 pub mod Turns
 pub mod Numbers
+pub mod BadChain
 pub mod WellFormed
 pub mod Sound
+pub mod Table
 pub mod Only
 pub mod Output

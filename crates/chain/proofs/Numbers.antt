@@ -1,61 +1,44 @@
 -- The state's own numbers stand before a call's: where one is given it is the call's, where none is the call's own follow. Assumes nothing.
 use Prim.Native.Nat.{ℕ}
-use mathlib.Core.Bool.{Bool, true, false}
-use mathlib.Core.Path.{_≡_, refl}
-use mathlib.Core.List.{List}
-use native.Mathlib.Omega.{arith}
-use lib.Dec.{eqb}
+use mathlib.Core.Path.{_≡_}
+use mathlib.Core.List.{List, []}
 use Rattle.chain.specs.declared.Chain.{Chain}
-use Rattle.chain.specs.Paper.{done, bad-chain, no-run, ill-formed, closed}
-use Rattle.chain.specs.Rules.{pick, Rule, firstOf}
-use Rattle.chain.specs.State.{badChain, illFormed, stateRules, openRules, stateNumber, openNumber, feedRules, feedNumber}
+use Rattle.chain.specs.Paper.{done}
+use Rattle.chain.specs.Rules.{Rule, firstOf}
+use Rattle.chain.specs.State.{stateRules, openRules, feedRules, stateNumber, openNumber, feedNumber}
+use Rattle.chain.proofs.FirstOf.{None, first-none, first-passes, first-gives}
 
-two-give : (p q : Bool) (x : ℕ) → (pick p bad-chain (pick q ill-formed done) ≡ done → ⊥)
-    → pick p bad-chain (pick q ill-formed x) ≡ pick p bad-chain (pick q ill-formed done)
-two-give true q x h = refl
-two-give false true x h = refl
-two-give false false x h = absurd (h refl)
+module _ (c : Chain) (len : ℕ) where
+  pub state-none : stateNumber c len ≡ done → None (stateRules c len [])
+  unfolding stateNumber
+  state-none h = first-none (stateRules c len []) done tt h
 
-two-pass : (p q : Bool) (x : ℕ) → pick p bad-chain (pick q ill-formed done) ≡ done → pick p bad-chain (pick q ill-formed x) ≡ x
-two-pass true q x h = absurd (omega arith)
-two-pass false true x h = absurd (omega arith)
-two-pass false false x h = refl
+  pub open-none : openNumber c len ≡ done → None (openRules c len [])
+  unfolding openNumber
+  open-none h = first-none (openRules c len []) done tt h
 
-three-give : (p q r : Bool) (x : ℕ) → (pick p bad-chain (pick q ill-formed (pick r no-run done)) ≡ done → ⊥)
-    → pick p bad-chain (pick q ill-formed (pick r no-run x)) ≡ pick p bad-chain (pick q ill-formed (pick r no-run done))
-three-give true q r x h = refl
-three-give false true r x h = refl
-three-give false false true x h = refl
-three-give false false false x h = absurd (h refl)
-
-three-pass : (p q r : Bool) (x : ℕ) → pick p bad-chain (pick q ill-formed (pick r no-run done)) ≡ done
-    → pick p bad-chain (pick q ill-formed (pick r no-run x)) ≡ x
-three-pass true q r x h = absurd (omega arith)
-three-pass false true r x h = absurd (omega arith)
-three-pass false false true x h = absurd (omega arith)
-three-pass false false false x h = refl
+  pub feed-none : feedNumber c len ≡ done → None (feedRules c len [])
+  unfolding feedNumber
+  feed-none h = first-none (feedRules c len []) done tt h
 
 module _ (c : Chain) (len : ℕ) (rules : List Rule) (n : ℕ) where
   pub state-gives : (stateNumber c len ≡ done → ⊥) → firstOf (stateRules c len rules) n ≡ stateNumber c len
   unfolding stateNumber
-  state-gives h = two-give (badChain (c .count) (c .kinds) len) (illFormed c) (firstOf rules n) h
+  state-gives h = first-gives rules n (stateRules c len []) done h
 
   pub state-passes : stateNumber c len ≡ done → firstOf (stateRules c len rules) n ≡ firstOf rules n
-  unfolding stateNumber
-  state-passes h = two-pass (badChain (c .count) (c .kinds) len) (illFormed c) (firstOf rules n) h
+  state-passes h = first-passes rules n (stateRules c len []) (state-none c len h)
 
   pub open-gives : (openNumber c len ≡ done → ⊥) → firstOf (openRules c len rules) n ≡ openNumber c len
   unfolding openNumber
-  open-gives h = three-give (badChain (c .count) (c .kinds) len) (illFormed c) (eqb (c .place .running) closed) (firstOf rules n) h
+  open-gives h = first-gives rules n (openRules c len []) done h
 
   pub open-passes : openNumber c len ≡ done → firstOf (openRules c len rules) n ≡ firstOf rules n
-  unfolding openNumber
-  open-passes h = three-pass (badChain (c .count) (c .kinds) len) (illFormed c) (eqb (c .place .running) closed) (firstOf rules n) h
+  open-passes h = first-passes rules n (openRules c len []) (open-none c len h)
 
   pub feed-gives : (feedNumber c len ≡ done → ⊥) → firstOf (feedRules c len rules) n ≡ feedNumber c len
   unfolding feedNumber
-  feed-gives h = three-give (badChain (c .count) (c .kinds) len) (illFormed c) (eqb (c .place .running) closed) (firstOf rules n) h
+  feed-gives h = first-gives rules n (feedRules c len []) done h
 
   pub feed-passes : feedNumber c len ≡ done → firstOf (feedRules c len rules) n ≡ firstOf rules n
-  unfolding feedNumber
-  feed-passes h = three-pass (badChain (c .count) (c .kinds) len) (illFormed c) (eqb (c .place .running) closed) (firstOf rules n) h
+  feed-passes h = first-passes rules n (feedRules c len []) (feed-none c len h)

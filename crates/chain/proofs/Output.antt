@@ -6,7 +6,7 @@ use mathlib.Core.List.{List}
 use borrow.Author.Tests.{ne-eqb}
 use Rattle.chain.specs.declared.Written.{Written}
 use Rattle.chain.specs.Paper.{done}
-use Rattle.chain.specs.Output.{lengthOf, outputOf, Writes}
+use Rattle.chain.specs.Output.{lengthOf, outputOf, Writes, NothingWritten}
 
 pub writes-only : (n : ℕ) (bytes out : List ℕ) (r s : Written) (out′ out″ : List ℕ) → Writes n bytes out r out′ → Writes n bytes out s out″
     → (r ≡ s) × (out′ ≡ out″)
@@ -17,3 +17,6 @@ refused-empty n bytes z = rw (ne-eqb n done z)
 
 pub refused-as-lent : (n : ℕ) (bytes out : List ℕ) → n ≢ done → outputOf n bytes out ≡ out
 refused-as-lent n bytes out z = rw (ne-eqb n done z)
+
+pub nothing-written : (n : ℕ) (bytes out : List ℕ) → n ≢ done → NothingWritten (lengthOf n bytes) out (outputOf n bytes out)
+nothing-written n bytes out z = record { empty = refused-empty n bytes z; as-lent = refused-as-lent n bytes out z }

@@ -6,3 +6,5 @@ pub mod Window
 pub mod Output
 pub mod State
 pub mod Calls
+pub mod WellFormed
+pub mod Table

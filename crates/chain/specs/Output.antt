@@ -27,3 +27,8 @@ outputOf n bytes out = pick (eqb n done) (over bytes out) out
 pub record Writes (n : ℕ) (bytes out : List ℕ) (r : Written) (out′ : List ℕ) : Type 0 where
   pub answer : r ≡ writtenOf n bytes
   pub output : out′ ≡ outputOf n bytes out
+
+-- and what a refusal leaves: len is the length answered
+pub record NothingWritten (len : ℕ) (out out′ : List ℕ) : Type 0 where
+  pub empty : len ≡ 0
+  pub as-lent : out′ ≡ out

@@ -28,7 +28,7 @@ use Rattle.closing.specs.Calls.{writtenNumber}
 use Rattle.closing.proofs.Meets.{number-open}
 use Rattle.closing.proofs.Ends.{Ends}
 use Rattle.closing.proofs.Rows.{ends-0, ends-1, ends-2, ends-3, ends-4, ends-5, ends-6, ends-7, ends-8, ends-9, ends-10, ends-11, ends-12, ends-13}
-use Rattle.closing.proofs.Sound.{Sound, sound}
+use Rattle.closing.proofs.Sound.{Within, within}
 
 -- when the closing bytes end a run with a number other than 0: 5 at a preamble, 11 and 12 where FF FF is sent as a start or an end
 abbrev pub endRules : Chain → List Rule
@@ -66,7 +66,7 @@ module _ (c : Chain) (m : List ℕ) where
   shaped : {bs : List ℕ} {n : ℕ} → Ends c m bs n → closingBytes c m ≡ bs → closingNumber c ≡ n → Ends c m (closingBytes c m) (closingNumber c)
   shaped h p q = rw (p, q) h
 
-module _ (c : Chain) (m : List ℕ) (s : Sound c m) where
+module _ (c : Chain) (m : List ℕ) (s : Within c m) where
   small : sizeHere c ≤ 65535
   small = omega (arith, s .most)
 
@@ -160,7 +160,7 @@ never-more c = first-never (endRules c) done more (omega arith) tt
 -- for every chain, place and memory that the calls take as an open run; the struct holds eight kinds
 pub closes : (c : Chain) (m : List ℕ) → length (c .kinds) ≡ 8 → openNumber c (length m) ≡ done → Closes c m
 closes c m eight h =
-    let r = every c m (sound c m h eight) in
+    let r = every c m (within c m h eight) in
     let e = r .ends refl in
     record {
       number = rw (e .is);
@@ -180,7 +180,7 @@ pub record SliceCloses (c : Chain) (m : List ℕ) : Type 0 where
 pub slice-closes : (c : Chain) (m : List ℕ) → length (c .kinds) ≡ 8 → feedNumber c (length m) ≡ done → SliceCloses c m
 unfolding sliceOf sliceMemory fedOf
 slice-closes c m eight h =
-    let e = every c m (sound c m (feed-is-open c (length m) h) eight) .ends refl in
+    let e = every c m (within c m (feed-is-open c (length m) h) eight) .ends refl in
     let z : c .place .mismatches + 0 ≡ c .place .mismatches = omega arith in
     record {
       fed = rw (h, e .is, ne-eqb (closingNumber c) more (never-more c), e .along .chain, e .along .taken, e .along .mismatches, z);

@@ -1,23 +1,20 @@
 -- The numbers of a byte, each by itself: which conditions can meet, and which cannot. Assumes nothing.
-use Prim.Native.Nat.{ℕ, _+_, _<_, _≤_}
-use mathlib.Core.Logic.{⊎-elim}
-use mathlib.Core.Path.{_≡_}
-use mathlib.Core.List.{List}
+use Prim.Native.Nat.{ℕ, _+_, _<_}
+use mathlib.Core.Logic.{_↔_, ⊎-elim}
+use mathlib.Core.Path.{_≡_, _∙_}
+use mathlib.Core.List.{List, [], _∷_}
 use native.Mathlib.Nat.{mod-eq-of-lt}
 use native.Mathlib.Omega.{arith}
-use lib.Dec.{leb}
+use lib.Dec.{T}
 use lib.ListN.{length}
-use borrow.Author.Tests.{leb-true, leb-false}
 use Rattle.chain.specs.declared.Chain.{Chain}
-use Rattle.chain.specs.Paper.{at·second, at·control, at·start-low, at·end-low, at·check, closed, most-devices, bit3, bit4}
-use Rattle.chain.specs.State.{wellFormed}
-use Rattle.chain.proofs.ByCases.{by-test}
-use Rattle.machine.specs.Byte.{nextDevice}
-use Rattle.demands.specs.Formed.{BadChain, IllFormed, WellFormed}
-use Rattle.demands.specs.ByteTable.{Awaits, Begins, BeginsWith, Five, Seven, Eight, Running, ByteNumbers}
-use Rattle.demands.proofs.Table.{so-not}
-use Rattle.demands.proofs.Formed.{t-formed}
-use Rattle.demands.proofs.ByteTables.{byte-table}
+use Rattle.chain.specs.Paper.{at·second, at·control, at·start-low, at·end-low, at·check, no-preamble, barred, no-check, bad-check-byte, ends-here, last-device, bad-start, bad-end, more, bit3, bit4}
+use Rattle.chain.specs.Table.{NoneOf, Running}
+use Rattle.chain.proofs.Table.{has, before, Condition, none-of, row-of, feed-takes}
+use Rattle.chain.proofs.Sound.{feed-sound}
+use Rattle.machine.specs.Byte.{nextDevice, numberOf}
+use Rattle.demands.specs.ByteTable.{Awaits, Begins, BeginsWith, Five, Six, Seven, Eight, Nine, Ten, ownTable, sliceNumber, ByteNumbers}
+use Rattle.demands.proofs.ByteTables.{own-table, slice-on, run-one}
 
 module _ (c : Chain) (b : ℕ) where
   -- what the awaited byte rules out
@@ -50,56 +47,57 @@ module _ (c : Chain) (b : ℕ) where
   seven-eight : Seven c b → Eight c b → ⊥
   seven-eight h f = ⊎-elim (λ x. begun-eight bit3 x f) (λ x. no-check-byte at·control (x .0) (omega arith) f) (h .1)
 
-front : {X : Type 0} (c : Chain) (m : List ℕ) → Running c m → X
-    → (BadChain (c .count) (c .kinds) (length m) → ⊥) × ((IllFormed c → ⊥) × ((c .place .running ≡ closed → ⊥) × X))
-front c m k x = (k .chain, (k .formed, (k .runs, x)))
+  -- between the control byte and the check byte no number up to 7 is given
+  early : {X : Type 0} (a : ℕ) → Awaits c a → at·control < a → a < at·check → X
+      → (Five c b → ⊥) × ((Eight c b → ⊥) × ((Nine c b → ⊥) × ((Ten c b → ⊥) × ((Six c b → ⊥) × ((Seven c b → ⊥) × X)))))
+  early a h g k x =
+      (no-five a h (omega arith), (no-check-byte a h k, (no-check-byte a h k, (no-check-byte a h k, (no-six bit4 a h (omega arith) k, (no-seven a h g k, x))))))
 
-pub byte-numbers : (c : Chain) (m : List ℕ) (b : ℕ) → Running c m → ByteNumbers c m b
-byte-numbers c m b k =
-    let t = byte-table c m b .1 .1 .1 in
-    record {
-      five = (λ e. t .0 .0 e .1, λ p. t .0 .1 (front c m k tt, p));
-      eight = (λ e. t .1 .0 .0 e .1, λ p. t .1 .0 .1 (front c m k (no-five c b at·check (p .0) (omega arith), tt), p));
-      nine = (λ e. t .1 .1 .0 .0 e .1, λ p. t .1 .1 .0 .1 (front c m k (no-five c b at·check (p .0) (omega arith), (λ q. q .2 (p .1), tt)), p));
-      ten = (
-        λ e. let r = t .1 .1 .1 .0 .0 e in (r .1, r .0 .1 .1 .1 .1 .1 .0),
-        λ p. t .1 .1 .1 .0 .1 (front c m k (no-five c b at·check (p .0 .0) (omega arith), (λ q. q .2 (p .0 .1), (p .1, tt))), p .0),
-      );
-      six = (
-        λ e. let r = t .1 .1 .1 .1 .0 .0 e in (r .1, r .0 .1 .1 .1 .1 .1 .0, r .0 .1 .1 .1 .1 .1 .1 .0),
-        λ p. t .1 .1 .1 .1 .0 .1 (front c m k (begun-five c b bit4 (p .0), (begun-eight c b bit4 (p .0), (p .1, (p .2, tt)))), p .0),
-      );
-      seven = (
-        λ e. let r = t .1 .1 .1 .1 .1 .0 .0 e in (r .1, r .0 .1 .1 .1 .1 .1 .0, r .0 .1 .1 .1 .1 .1 .1 .0, r .0 .1 .1 .1 .1 .1 .1 .1 .0),
-        λ p. t .1 .1 .1 .1 .1 .0 .1 (front c m k (seven-five c b (p .0), (seven-eight c b (p .0), (p .1, (p .2, (p .3, tt))))), p .0),
-      );
-      eleven = (
-        λ e. t .1 .1 .1 .1 .1 .1 .0 .0 e .1,
-        λ p.
-            t .1 .1 .1 .1 .1 .1 .0 .1
-            (front c m k (no-five c b at·start-low (p .0) (omega arith), (no-check-byte c b at·start-low (p .0) (omega arith), (no-check-byte c b at·start-low (p .0) (omega arith), (no-check-byte c b at·start-low (p .0) (omega arith), (no-six c b bit4 at·start-low (p .0) (omega arith) (omega arith), (no-seven c b at·start-low (p .0) (omega arith) (omega arith), tt)))))), p),
-      );
-      twelve = (
-        λ e. t .1 .1 .1 .1 .1 .1 .1 .0 .0 e .1,
-        λ p.
-            t .1 .1 .1 .1 .1 .1 .1 .0 .1
-            (front c m k (no-five c b at·end-low (p .0) (omega arith), (no-check-byte c b at·end-low (p .0) (omega arith), (no-check-byte c b at·end-low (p .0) (omega arith), (no-check-byte c b at·end-low (p .0) (omega arith), (no-six c b bit4 at·end-low (p .0) (omega arith) (omega arith), (no-seven c b at·end-low (p .0) (omega arith) (omega arith), (λ q. let x = q .0 in let y = p .0 in omega arith, tt))))))), p),
-      );
-    }
+  at-13 : Awaits c at·check → Five c b → ⊥
+  at-13 h = no-five at·check h (omega arith)
 
--- ---- in such a state the place is well formed, and the next device is one further
+  -- the row of the number k, and of one before it
+  own : (k : ℕ) → T (has (ownTable c b) k) → numberOf c b ≡ k ↔ NoneOf (before (ownTable c b) k) × Condition (ownTable c b) k
+  own = row-of (ownTable c b) (numberOf c b) more (own-table c b)
 
-pub open-formed : (c : Chain) (m : List ℕ) → Running c m → WellFormed c (c .registers) (c .place)
-open-formed c m k =
-    by-test (wellFormed c (c .registers) (c .place)) (λ e. t-formed c (c .registers) (c .place) .says e)
-    (λ e. absurd (k .formed (IllFormed.open-place (k .runs) (λ w. so-not (t-formed c (c .registers) (c .place)) e (w .1)))))
+  not-before : (k j : ℕ) → NoneOf (before (ownTable c b) k) → Condition (before (ownTable c b) k) j → ⊥
+  not-before k j = none-of (before (ownTable c b) k) j
 
-few-devices : (c : Chain) (m : List ℕ) → Running c m → c .count ≤ most-devices
-few-devices c m k =
-    by-test (leb (c .count) most-devices) (λ e. leb-true (c .count) most-devices e)
-    (λ e.
-    let h = leb-false (c .count) most-devices e in
-    absurd (k .chain (BadChain.count-not-1-to-8 (λ x. let z = x .1 in omega arith))))
+  own-numbers : ByteNumbers (numberOf c b) c b
+  own-numbers =
+      record {
+        five = (λ e. own no-preamble tt .0 e .1, λ p. own no-preamble tt .1 (tt, p));
+        eight = (λ e. own bad-check-byte tt .0 e .1, λ p. own bad-check-byte tt .1 ((at-13 (p .0), tt), p));
+        nine = (λ e. own ends-here tt .0 e .1, λ p. own ends-here tt .1 ((at-13 (p .0), (λ q. q .2 (p .1), tt)), p));
+        ten = (
+          λ e. let r = own last-device tt .0 e in (r .1, not-before last-device ends-here (r .0)),
+          λ p. own last-device tt .1 ((at-13 (p .0 .0), (λ q. q .2 (p .0 .1), (p .1, tt))), p .0),
+        );
+        six = (
+          λ e. let r = own barred tt .0 e in (r .1, not-before barred ends-here (r .0), not-before barred last-device (r .0)),
+          λ p. own barred tt .1 ((begun-five bit4 (p .0), (begun-eight bit4 (p .0), (p .1, (p .2, tt)))), p .0),
+        );
+        seven = (
+          λ e.
+              let r = own no-check tt .0 e in
+              (r .1, not-before no-check ends-here (r .0), not-before no-check last-device (r .0), not-before no-check barred (r .0)),
+          λ p. own no-check tt .1 ((seven-five (p .0), (seven-eight (p .0), (p .1, (p .2, (p .3, tt))))), p .0),
+        );
+        eleven = (
+          λ e. own bad-start tt .0 e .1,
+          λ p. own bad-start tt .1 (early at·start-low (p .0) (omega arith) (omega arith) tt, p),
+        );
+        twelve = (
+          λ e. own bad-end tt .0 e .1,
+          λ p. own bad-end tt .1 (early at·end-low (p .0) (omega arith) (omega arith) (λ q. let x = q .0 in let y = p .0 in omega arith, tt), p),
+        );
+      }
 
+pub byte-numbers : (c : Chain) (m : List ℕ) (b : ℕ) → Running c m → ByteNumbers (sliceNumber c m (b ∷ [])) c b
+byte-numbers c m b k = rw (slice-on c m (b ∷ []) (feed-takes c m .1 k) ∙ run-one c m b) (own-numbers c b)
+
+-- in such a state the next device is one further
 pub next-device : (c : Chain) (m : List ℕ) → Running c m → nextDevice (c .place) ≡ c .place .device + 1
-next-device c m k = mod-eq-of-lt (omega (arith, few-devices c m k, open-formed c m k .device-in-chain))
+next-device c m k =
+    let s = feed-sound c (length m) (feed-takes c m .1 k) in
+    mod-eq-of-lt (omega (arith, s .usable .fits .few, s .formed .device-in-chain))

@@ -1,6 +1,6 @@
 -- The table of a byte's numbers. Assumes nothing.
 use Prim.Native.Nat.{ℕ, _/_, _%_}
-use mathlib.Core.Bool.{Bool, false, _&&_}
+use mathlib.Core.Bool.{true, false, _&&_}
 use mathlib.Core.Logic.{_⊎_, inl, inr, ⊎-elim, _≢_}
 use mathlib.Core.Path.{_≡_, refl, sym, ap, _∙_}
 use mathlib.Core.List.{List, [], _∷_}
@@ -10,20 +10,21 @@ use lib.Dec.{eqb}
 use lib.ListN.{length}
 use Rattle.chain.specs.declared.Chain.{Chain}
 use Rattle.chain.specs.Paper.{preamble, at·preamble, at·second, at·check, two-preambles, done, more}
-use Rattle.chain.specs.Rules.{pick, firstOf}
+use Rattle.chain.specs.Rules.{firstOf}
 use Rattle.chain.specs.State.{feedRules, feedNumber}
+use Rattle.chain.specs.WellFormed.{Sets}
+use Rattle.chain.specs.Table.{Table}
 use Rattle.chain.proofs.ByCases.{by-test}
+use Rattle.chain.proofs.Means.{Means, m-map, reads}
 use Rattle.chain.proofs.Numbers.{feed-gives, feed-passes}
+use Rattle.chain.proofs.Table.{Same, table, feed-same, table-reads}
 use Rattle.machine.specs.declared.Fed.{Fed}
 use Rattle.machine.specs.Byte.{awaits, nextDevice, begins, registerBegun, byteRules, numberOf}
 use Rattle.machine.specs.Run.{run, runOf}
-use Rattle.machine.specs.Calls.{unfed, fedOf, sliceOf}
+use Rattle.machine.specs.Calls.{sliceOf}
 use Rattle.machine.proofs.Runs.{step-number}
-use Rattle.demands.specs.Formed.{Sets}
-use Rattle.demands.specs.Table.{Table}
-use Rattle.demands.specs.ByteTable.{Awaits, BeginsWith, byteTable, sliceNumber}
-use Rattle.demands.proofs.Table.{Tests, t-iff, table, reads}
-use Rattle.demands.proofs.CallTables.{state-reads}
+use Rattle.machine.proofs.Slices.{slice-runs, slice-refused, fed-number}
+use Rattle.demands.specs.ByteTable.{Awaits, BeginsWith, ownTable, byteTable, sliceNumber}
 
 -- ---- B2 that would begin a device
 
@@ -53,32 +54,29 @@ module _ (bit : ℕ) (c : Chain) (b : ℕ) where
       (λ y. ((h .1 .0, inr (y .0)), rw (eq-eqb (c .place .awaited) at·check (y .0)) (rw (y .1) at (h .2))))
       (h .1 .1)
 
-  pub t-begins : Tests (begins c b && eqb (registerBegun c / bit % 2) 1) (BeginsWith bit c b)
-  t-begins =
-      let parts : Tests (begins c b && eqb (registerBegun c / bit % 2) 1) Parts = search reads depth 8 in
-      t-iff parts to-begins of-begins
+  pub m-begins : Means (begins c b && eqb (registerBegun c / bit % 2) 1) true (BeginsWith bit c b)
+  m-begins =
+      let parts : Means (begins c b && eqb (registerBegun c / bit % 2) 1) true Parts = search reads depth 8 in
+      m-map parts to-begins of-begins
+
+-- ---- a byte's own numbers
+
+pub own-same : (c : Chain) (b : ℕ) → Same (byteRules c b) (ownTable c b)
+own-same c b = search (m-begins, table-reads) depth 40
+
+pub own-table : (c : Chain) (b : ℕ) → Table (numberOf c b) (ownTable c b) more
+unfolding numberOf
+own-table c b = table (byteRules c b) (ownTable c b) more tt (own-same c b)
 
 -- ---- the byte call
 
--- where none of 1, 17 and 4 is given the run is fed, and else nothing is
+-- in a state that takes a slice the run is fed, and else nothing is
 module _ (c : Chain) (m s : List ℕ) where
-  abbrev refusal : ℕ
-  refusal = feedNumber c (length m)
-
-  pub slice-fed : feedNumber c (length m) ≡ done → sliceOf c m s ≡ fedOf (runOf (run c m more) s)
-  unfolding sliceOf
-  slice-fed e = ap (λ (q : Bool). pick q (fedOf (runOf (run c m more) s)) (unfed c refusal)) (eq-eqb refusal done e)
-
-  pub slice-unfed : feedNumber c (length m) ≢ done → sliceOf c m s ≡ unfed c (feedNumber c (length m))
-  unfolding sliceOf
-  slice-unfed h = ap (λ (q : Bool). pick q (fedOf (runOf (run c m more) s)) (unfed c refusal)) (ne-eqb refusal done h)
-
   pub slice-on : feedNumber c (length m) ≡ done → sliceNumber c m s ≡ runOf (run c m more) s .number
-  unfolding fedOf
-  slice-on e = ap (λ (f : Fed). f .answer .number) (slice-fed e)
+  slice-on e = ap (λ (f : Fed). f .answer .number) (slice-runs c m s e .0) ∙ fed-number (runOf (run c m more) s)
 
   pub slice-off : feedNumber c (length m) ≢ done → sliceNumber c m s ≡ feedNumber c (length m)
-  slice-off h = ap (λ (f : Fed). f .answer .number) (slice-unfed h)
+  slice-off h = ap (λ (f : Fed). f .answer .number) (slice-refused c m s h .0)
 
 pub run-one : (c : Chain) (m : List ℕ) (b : ℕ) → runOf (run c m more) (b ∷ []) .number ≡ numberOf c b
 unfolding runOf
@@ -95,8 +93,6 @@ byte-number c m b =
     let z = eqb-false (feedNumber c (length m)) done e in
     slice-off c m (b ∷ []) z ∙ sym (feed-gives c (length m) (byteRules c b) more z))
 
-pub ruleset byte-reads = (t-begins, state-reads)
-
 pub byte-table : (c : Chain) (m : List ℕ) (b : ℕ) → Table (sliceOf c m (b ∷ []) .answer .number) (byteTable c m b) more
 byte-table c m b =
-    rw (byte-number c m b) (table (feedRules c (length m) (byteRules c b)) (byteTable c m b) more tt (search byte-reads depth 40))
+    rw (byte-number c m b) (table (feedRules c (length m) (byteRules c b)) (byteTable c m b) more tt (feed-same c m (own-same c b)))

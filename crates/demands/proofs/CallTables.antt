@@ -18,12 +18,14 @@ use Rattle.machine.specs.Calls.{startRules, startNumber, startOf}
 use Rattle.saved.specs.Layout.{wellSaved}
 use Rattle.saved.specs.Calls.{saveRules, saveNumber, saveOf, pickUpNumber, pickUpOf}
 use Rattle.closing.specs.Calls.{closingRules, writtenNumber, closingOf}
-use Rattle.demands.specs.Formed.{BadChain, IllFormed, WellSaved}
-use Rattle.demands.specs.Table.{Claim, _when_, Table, chainTable, startTable, closingTable, saveTable, PickUpNumbers}
-use Rattle.demands.proofs.Table.{table, so-not, reads}
-use Rattle.demands.proofs.Formed.{t-bad-chain, t-ill-formed, t-well-saved}
-
-pub ruleset state-reads = (t-bad-chain, t-ill-formed, reads)
+use Rattle.chain.specs.WellFormed.{BadChain, IllFormed}
+use Rattle.chain.specs.Table.{Claim, _when_, Table, chainTable}
+use Rattle.chain.proofs.Means.{m-none}
+use Rattle.chain.proofs.WellFormed.{m-ill-formed}
+use Rattle.chain.proofs.Table.{table, row-of, else-of, state-reads}
+use Rattle.demands.specs.Formed.{WellSaved}
+use Rattle.demands.specs.Table.{startTable, closingTable, saveTable, PickUpNumbers}
+use Rattle.demands.proofs.Formed.{m-well-saved}
 
 pub new-table : (count : ℕ) (kinds m : List ℕ) → Table (newOf count kinds (length m) .number) (chainTable count kinds m) done
 unfolding newOf chainNumber
@@ -76,7 +78,7 @@ module _ (c : Chain) (m s : List ℕ) where
       ∷ (illFormed c || not (eqb (c .place .running) opened) && not (wellSaved c s) gives ill-formed)
       ∷ (eqb (c .place .running) opened gives run-open)
       ∷ [])
-      claims done tt (search (t-well-saved, state-reads) depth 40))
+      claims done tt (search (m-well-saved, state-reads) depth 40))
 
   -- a well-formed state is closed or open
   shut : (IllFormed c → ⊥) → c .place .running ≢ opened → c .place .running ≡ closed
@@ -88,31 +90,32 @@ module _ (c : Chain) (m s : List ℕ) where
   not-both e o = omega arith
 
   saved-or-not : {P : Type 0} → (WellSaved c s → P) → ((WellSaved c s → ⊥) → P) → P
-  saved-or-not f g = by-test (wellSaved c s) (λ e. f (t-well-saved c s .says e)) (λ e. g (so-not (t-well-saved c s) e))
+  saved-or-not f g = by-test (wellSaved c s) (λ e. f (m-well-saved c s .says e)) (λ e. g (m-none (m-well-saved c s) .says e))
 
   ill-or-not : {P : Type 0} → (IllFormed c → P) → ((IllFormed c → ⊥) → P) → P
-  ill-or-not f g = by-test (illFormed c) (λ e. f (t-ill-formed c .says e)) (λ e. g (so-not (t-ill-formed c) e))
+  ill-or-not f g = by-test (illFormed c) (λ e. f (m-ill-formed c .says e)) (λ e. g (m-none (m-ill-formed c) .says e))
 
   pub pick-up-numbers : PickUpNumbers c m s
   pick-up-numbers =
-      let t = merged in
+      let row = row-of claims (pickUpOf c (length m) s .number) done merged in
+      let last = else-of claims (pickUpOf c (length m) s .number) done merged in
       record {
-        one = (λ e. t .0 .0 e .1, λ h. t .0 .1 (tt, h));
+        one = (λ e. row bad-chain tt .0 e .1, λ h. row bad-chain tt .1 (tt, h));
         three = (
-          λ e. let r = t .1 .1 .0 .0 e in (r .0 .0, λ f. r .0 .1 .0 (inl f), r .1),
-          λ h. t .1 .1 .0 .1 ((h .0, (λ x. ⊎-elim (h .1) (λ y. y .0 (h .2)) x, tt)), h .2),
+          λ e. let r = row run-open tt .0 e in (r .0 .0, λ f. r .0 .1 .0 (inl f), r .1),
+          λ h. row run-open tt .1 ((h .0, (λ x. ⊎-elim (h .1) (λ y. y .0 (h .2)) x, tt)), h .2),
         );
         seventeen = (
           λ e.
-              let r = t .1 .0 .0 e in
+              let r = row ill-formed tt .0 e in
               (r .0 .0, ill-or-not (λ f. inl f) (λ f. ⊎-elim (λ x. inl x) (λ y. inr (f, shut f (y .0), y .1)) (r .1))),
-          λ h. t .1 .0 .1 ((h .0, tt), ⊎-elim (λ f. inl f) (λ y. inr (not-both (y .1), y .2)) (h .1)),
+          λ h. row ill-formed tt .1 ((h .0, tt), ⊎-elim (λ f. inl f) (λ y. inr (not-both (y .1), y .2)) (h .1)),
         );
         zero = (
           λ e.
-              let r = t .1 .1 .1 .0 e in
+              let r = last .0 e in
               let f : IllFormed c → ⊥ = λ x. r .1 .0 (inl x) in
               (r .0, f, shut f (r .1 .1 .0), saved-or-not (λ w. w) (λ w. absurd (r .1 .0 (inr (r .1 .1 .0, w))))),
-          λ h. t .1 .1 .1 .1 (h .0, (λ x. ⊎-elim (h .1) (λ y. y .1 (h .3)) x, (not-both (h .2), tt))),
+          λ h. last .1 (h .0, (λ x. ⊎-elim (h .1) (λ y. y .1 (h .3)) x, (not-both (h .2), tt))),
         );
       }

@@ -1,6 +1,4 @@
 pub mod OtherRegisters
-pub mod Exact
-pub mod Table
 pub mod Formed
 pub mod CallTables
 pub mod HuntTables

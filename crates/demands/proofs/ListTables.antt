@@ -30,14 +30,14 @@ use Rattle.lister.specs.Stops.{stop}
 use Rattle.lister.specs.Listing.{preambleAt, countAt, streamStop, anyShorter, listStop, listedOf, listingOf, listed, Lists}
 use Rattle.lister.proofs.AsMachine.{stream-as-machine}
 use Rattle.demands.specs.Grammar.{Bytes}
-use Rattle.demands.specs.Formed.{Among}
-use Rattle.demands.specs.Table.{Table}
+use Rattle.chain.specs.WellFormed.{Among}
+use Rattle.chain.specs.Table.{Table}
+use Rattle.chain.proofs.BadChain.{m-unknown}
+use Rattle.chain.proofs.Table.{table, table-reads}
 use Rattle.demands.specs.ByteTable.{sliceNumber}
 use Rattle.demands.specs.ListTable.{freshRun, ownNumber, listTable}
 use Rattle.demands.specs.Demand1.{ListRefused}
-use Rattle.demands.proofs.Table.{table, reads}
 use Rattle.demands.proofs.ByteTables.{slice-on}
-use Rattle.demands.proofs.WriteTables.{t-unknown-kind}
 
 -- ---- a freshly reset device, and a write started on it
 
@@ -194,7 +194,7 @@ module _ (kind mode : ℕ) (s : List ℕ) (small : Bytes s) where
 
     -- s is bytes, as its type in the code says
     pub list-table : Table (listedOf s (preambleAt mode) (listed kind mode s starts ends offsets) .number) (listTable kind mode s starts ends offsets) done
-    list-table = rw list-number (table rules (listTable kind mode s starts ends offsets) done tt (search (t-unknown-kind, reads) depth 40))
+    list-table = rw list-number (table rules (listTable kind mode s starts ends offsets) done tt (search (m-unknown, table-reads) depth 40))
 
 -- ---- what a refusal leaves
 

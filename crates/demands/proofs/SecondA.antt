@@ -31,7 +31,7 @@ use Rattle.demands.proofs.Along.{sentOf, sent-take}
 use Rattle.demands.proofs.Accepted.{Accepted, accepted-done, accepted-open}
 use Rattle.demands.proofs.Forward.{stream-accepted}
 use Rattle.demands.proofs.Meant.{walk-meant}
-use Rattle.demands.proofs.Opened.{state-sound, count-sound, opened-sound, start-done}
+use Rattle.demands.proofs.Opened.{count-sound, opened-sound, start-done}
 use Rattle.demands.proofs.Seen.{seen}
 use Rattle.demands.proofs.Short.{stream-short, bytes-long}
 use Rattle.demands.proofs.Stop.{bytes-take}
@@ -118,7 +118,7 @@ module _ (c : Chain) (m : List ℕ) (check mode : ℕ) (s : Section) (ss : List 
   bs = bytesOf xs
 
   counts : (0 < c .count) × (c .count ≤ most-devices)
-  counts = count-sound c (length m) (state-sound c (length m) (i .sound))
+  counts = count-sound c (length m) (i .sound)
 
   accepted : Accepted o bs
   accepted = stream-accepted c check mode s ss (counts .1) f

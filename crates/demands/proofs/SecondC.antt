@@ -1,19 +1,17 @@
 -- The second demand, clause (c): what one device accepts lists as its reading, and is written again as that. Assumes nothing.
 use Prim.Native.Nat.{ℕ, zero, suc, _^_, _≤_, _<_}
-use mathlib.Core.Bool.{Bool, true, false, not, _||_, true≢false}
 use mathlib.Core.Path.{_≡_, refl, ap, sym, subst, _∙_}
 use mathlib.Core.List.{List, [], _∷_}
 use native.Mathlib.Omega.{arith}
-use lib.Dec.{eqb, ltb}
 use lib.ListN.{length, getD, take}
-use borrow.Author.Tests.{eq-eqb}
+use borrow.Author.Tests.{eqb-false}
 use Rattle.chain.specs.declared.Chain.{Chain}
 use Rattle.chain.specs.declared.Made.{Made}
-use Rattle.chain.specs.Paper.{writing, most-devices, most-memory, more}
-use Rattle.chain.specs.Rules.{from}
+use Rattle.chain.specs.Paper.{writing, more}
 use Rattle.chain.specs.Set.{with·place}
-use Rattle.chain.specs.Kinds.{sizeOf, baseOf, knownOf}
-use Rattle.chain.specs.State.{badChain}
+use Rattle.chain.specs.Kinds.{sizeOf}
+use Rattle.chain.proofs.BadChain.{m-known}
+use Rattle.chain.proofs.Sound.{state-usable}
 use Rattle.machine.specs.declared.Fed.{Fed}
 use Rattle.machine.specs.Run.{run, runOf}
 use Rattle.machine.specs.Calls.{openedPlace, fedOf, sliceOf}
@@ -23,30 +21,12 @@ use Rattle.demands.specs.Demand3.{Reading, load}
 use Rattle.demands.specs.Files.{One, Demand2c}
 use Rattle.demands.specs.Ours.{ours}
 use Rattle.demands.proofs.Along.{sentOf}
-use Rattle.demands.proofs.Opened.{Sound, state-sound, count-sound, opened-sound, start-done}
+use Rattle.demands.proofs.Opened.{count-sound, opened-sound, start-done}
 use Rattle.demands.proofs.Short.{stream-short}
 use Rattle.demands.proofs.Parse.{parse}
 use Rattle.demands.proofs.Meant.{reading}
 use Rattle.demands.proofs.Used.{Used, used, used-taken}
 use Rattle.demands.proofs.Relisted.{relisted}
-
--- ---- the first device of a sound chain is of a known kind
-
-second-held : (a b d e : Bool) → (a || not b || d || e) ≡ false → b ≡ true
-second-held true b d e h = absurd (true≢false h)
-second-held false true d e h = refl
-second-held false false d e h = absurd (true≢false h)
-
-sound-known : (c : Chain) (len : ℕ) → Sound c len → knownOf (c .kinds) (c .count) ≡ true
-unfolding badChain
-sound-known c len s =
-    second-held (not (from 1 most-devices (c .count))) (knownOf (c .kinds) (c .count)) (ltb most-memory (baseOf (c .kinds) (c .count)))
-    (not (eqb (baseOf (c .kinds) (c .count)) len)) (s .fits)
-
-known-first : (ks : List ℕ) → 0 < length ks → knownOf ks 1 ≡ true → sizeOf (getD ks 0 0) ≡ 0 → ⊥
-unfolding knownOf
-known-first [] l h z = absurd (omega arith)
-known-first (k ∷ ks) l h z = true≢false (sym h ∙ rw (eq-eqb (sizeOf k) 0 z))
 
 bytes-take : (n : ℕ) (bs : List ℕ) → Bytes bs → Bytes (take n bs)
 bytes-take zero bs u = tt
@@ -74,13 +54,13 @@ module _ (c : Chain) (m : List ℕ) (kind mode : ℕ) (bs : List ℕ) (i : Idle 
   load-taken = ap (λ (x : Fed). x .answer .taken) load-is
 
   devices : (0 < c .count) × (c .count ≤ 8)
-  devices = count-sound c (length m) (state-sound c (length m) (i .sound))
+  devices = count-sound c (length m) (i .sound)
 
   first-known : One kind c → sizeOf kind ≡ 0 → ⊥
   first-known one =
-      subst (λ (k : ℕ). sizeOf k ≡ 0 → ⊥) (one .first)
-      (known-first (c .kinds) (omega (arith, i .kinds))
-      (subst (λ (n : ℕ). knownOf (c .kinds) n ≡ true) (one .count) (sound-known c (length m) (state-sound c (length m) (i .sound)))))
+      let first = getD (c .kinds) 0 0 in
+      let known = state-usable c (length m) (i .sound) .fits .known 0 (devices .0) in
+      subst (λ (k : ℕ). sizeOf k ≡ 0 → ⊥) (one .first) (eqb-false (sizeOf first) 0 (m-known first .said known))
 
   -- it used as many bytes as it answers
   module _ (u : Bytes bs) (x : Used begun bs) where

@@ -1,6 +1,6 @@
 -- The table of a slice's numbers: n at byte k exactly when the k bytes before it gave 16 and n's condition holds there. Assumes nothing.
 use Prim.Native.Nat.{ℕ, zero, suc, _<_, _≤_}
-use mathlib.Core.Bool.{Bool, true, false, false≢true}
+use mathlib.Core.Bool.{true, false, false≢true}
 use mathlib.Core.Logic.{_↔_, _⊎_, inl, inr, ⊎-elim, _≢_}
 use mathlib.Core.Path.{_≡_, refl, sym, ap, subst, _∙_}
 use mathlib.Core.List.{List, [], _∷_, _++_}
@@ -10,33 +10,24 @@ use lib.Dec.{eqb, leb}
 use lib.ListN.{length, getD, take, drop, take-append-drop}
 use lib.Seq.{take-suc, take-take, take-length}
 use Rattle.chain.specs.declared.Chain.{Chain}
-use Rattle.chain.specs.Paper.{closed, done, bad-chain, no-run, no-preamble, barred, no-check, bad-check-byte, ends-here, last-device, bad-start, bad-end, more, ill-formed}
-use Rattle.chain.specs.Rules.{Rule, _gives_, pick, firstOf}
-use Rattle.chain.specs.Set.{with·place, closedPlace}
-use Rattle.chain.specs.State.{badChain, illFormed, feedRules, feedNumber}
+use Rattle.chain.specs.Paper.{done, more}
+use Rattle.chain.specs.Rules.{Rule, _gives_, firstOf}
+use Rattle.chain.specs.State.{feedRules, feedNumber}
+use Rattle.chain.specs.Table.{NoneOf, Table}
 use Rattle.chain.proofs.ByCases.{by-test}
+use Rattle.chain.proofs.Means.{Means}
 use Rattle.chain.proofs.Sound.{feed-never-more}
 use Rattle.chain.proofs.Numbers.{feed-gives, feed-passes}
+use Rattle.chain.proofs.Table.{Same, row, end, Alike, like, same, same-alike, table, else-of, feed-same}
 use Rattle.machine.specs.declared.Fed.{Fed}
 use Rattle.machine.specs.Byte.{byteRules, numberOf}
 use Rattle.machine.specs.Run.{Run, run, runOf}
 use Rattle.machine.specs.Calls.{fedOf, sliceOf}
 use Rattle.machine.proofs.Feed.{run-append, run-over}
 use Rattle.machine.proofs.Runs.{step-number}
-use Rattle.demands.specs.Table.{Claim, NoneOf, Table, feedTable}
-use Rattle.demands.specs.ByteTable.{Five, Six, Seven, Eight, Nine, Ten, Eleven, Twelve, Accepts, ownTable, sliceNumber, AtSome, sliceTable}
-use Rattle.demands.proofs.Table.{Tests, t-eq, Same, row, end, like, same, same-alike, table}
-use Rattle.demands.proofs.Formed.{t-bad-chain, t-ill-formed}
-use Rattle.demands.proofs.ByteTables.{slice-fed, slice-on, slice-off, byte-reads}
-
--- ---- a byte's own numbers
-
-own-same : (c : Chain) (b : ℕ) → Same (byteRules c b) (ownTable c b)
-own-same c b = search byte-reads depth 40
-
-pub own-table : (c : Chain) (b : ℕ) → Table (numberOf c b) (ownTable c b) more
-unfolding numberOf
-own-table c b = table (byteRules c b) (ownTable c b) more tt (own-same c b)
+use Rattle.machine.proofs.Slices.{slice-runs, fed-more}
+use Rattle.demands.specs.ByteTable.{ByteClaim, _whenever_, byteClaims, claimsOf, ownTable, sliceNumber, AtSome, sliceTable}
+use Rattle.demands.proofs.ByteTables.{own-same, own-table, slice-on, slice-off}
 
 -- a condition that a byte's number ends the run by
 abbrev Ends : (Chain → ℕ → Type 0) → Type 0
@@ -77,10 +68,7 @@ module _ (c : Chain) (m s : List ℕ) (z : feedNumber c (length m) ≡ done) whe
   number-at k = slice-on c m (take k s) z
 
   chain-at : (k : ℕ) → sliceNumber c m (take k s) ≡ more → sliceOf c m (take k s) .chain ≡ after k .chain
-  unfolding fedOf
-  chain-at k h =
-      ap (λ (f : Fed). f .chain) (slice-fed c m (take k s) z)
-      ∙ ap (λ (q : Bool). pick q (after k .chain) (with·place (after k .chain) closedPlace)) (eq-eqb (after k .number) more (sym (number-at k) ∙ h))
+  chain-at k h = ap (λ (f : Fed). f .chain) (slice-runs c m (take k s) z .0) ∙ fed-more (after k) (sym (number-at k) ∙ h)
 
   -- what gave 16 gave 16 before
   earlier : (j k : ℕ) → j ≤ k → sliceNumber c m (take k s) ≡ more → sliceNumber c m (take j s) ≡ more
@@ -101,10 +89,10 @@ module _ (c : Chain) (m s : List ℕ) (z : feedNumber c (length m) ≡ done) whe
   -- a slice is over at the first byte that gives another number than 16
   pub over-at : (k : ℕ) → sliceNumber c m (take (suc k) s) ≢ more → sliceOf c m s ≡ sliceOf c m (take (suc k) s)
   over-at k h =
-      slice-fed c m s z
+      slice-runs c m s z .0
       ∙ ap (λ (x : List ℕ). fedOf (runOf (run c m more) x)) (sym (take-append-drop (suc k) s))
       ∙ ap fedOf (run-append (take (suc k) s) (drop (suc k) s) (run c m more) ∙ run-over (drop (suc k) s) (after (suc k)) (λ e. h (number-at (suc k) ∙ e)))
-      ∙ sym (slice-fed c m (take (suc k) s) z)
+      ∙ sym (slice-runs c m (take (suc k) s) z .0)
 
   module _ (P : Chain → ℕ → Type 0) (ends : Ends P) where
     holds-ends : (a : AtSome c m s P) → sliceNumber c m (take (suc (a .k)) s) ≢ more
@@ -133,52 +121,25 @@ module _ (c : Chain) (m s : List ℕ) (z : feedNumber c (length m) ≡ done) whe
 
 -- ---- the table
 
-own-none : (c : Chain) (b : ℕ) → numberOf c b ≡ more → NoneOf (ownTable c b)
-own-none c b e = own-table c b .1 .1 .1 .1 .1 .1 .1 .1 .1 .0 e
+-- each condition of a byte ends the run
+abbrev AllEnd : List ByteClaim → Type 0
+AllEnd [] = Unit {0}
+AllEnd ((n whenever P) ∷ claims) = Ends P × AllEnd claims
 
-five-ends : Ends Five
-five-ends c b p e = own-none c b e .0 p
+all-end : (claims : List ByteClaim) → ((c : Chain) (b : ℕ) → numberOf c b ≡ more → NoneOf (claimsOf (λ P. P c b) claims)) → AllEnd claims
+all-end [] h = tt
+all-end ((n whenever P) ∷ claims) h = (λ c b p e. h c b e .0 p, all-end claims (λ c b e. h c b e .1))
 
-eight-ends : Ends Eight
-eight-ends c b p e = own-none c b e .1 .0 p
+own-ends : AllEnd byteClaims
+own-ends = all-end byteClaims (λ c b. else-of (ownTable c b) (numberOf c b) more (own-table c b) .0)
 
-nine-ends : Ends Nine
-nine-ends c b p e = own-none c b e .1 .1 .0 p
+-- their numbers, none of them given
+abbrev noRules : List ByteClaim → List Rule
+noRules [] = []
+noRules ((n whenever P) ∷ claims) = (false gives n) ∷ noRules claims
 
-ten-ends : Ends Ten
-ten-ends c b p e = own-none c b e .1 .1 .1 .0 p
-
-six-ends : Ends Six
-six-ends c b p e = own-none c b e .1 .1 .1 .1 .0 p
-
-seven-ends : Ends Seven
-seven-ends c b p e = own-none c b e .1 .1 .1 .1 .1 .0 p
-
-eleven-ends : Ends Eleven
-eleven-ends c b p e = own-none c b e .1 .1 .1 .1 .1 .1 .0 p
-
-twelve-ends : Ends Twelve
-twelve-ends c b p e = own-none c b e .1 .1 .1 .1 .1 .1 .1 .0 p
-
-accepts-ends : Ends Accepts
-accepts-ends c b p e = own-none c b e .1 .1 .1 .1 .1 .1 .1 .1 .0 p
-
--- the numbers of a run, none of them given
-abbrev noRules : List Rule
-noRules =
-    (false gives no-preamble)
-    ∷ (false gives bad-check-byte)
-    ∷ (false gives ends-here)
-    ∷ (false gives last-device)
-    ∷ (false gives barred)
-    ∷ (false gives no-check)
-    ∷ (false gives bad-start)
-    ∷ (false gives bad-end)
-    ∷ (false gives done)
-    ∷ []
-
-t-false : {P : Type 0} → (P → ⊥) → Tests false P
-t-false h = record { says = λ e. absurd (false≢true e); said = λ p. absurd (h p) }
+m-false : {P : Type 0} → (P → ⊥) → Means false true P
+m-false h = record { says = λ e. absurd (false≢true e); said = λ p. absurd (h p) }
 
 own-number : (c : Chain) (b : ℕ) → numberOf c b ≡ firstOf (byteRules c b) more
 unfolding numberOf
@@ -189,54 +150,40 @@ unfolding runOf
 run-none c m = refl
 
 module _ (c : Chain) (m s : List ℕ) where
-  -- 1, 17 and 4 before the rules of a run
-  before-run : {rs : List Rule} {cs : List Claim} → Same rs cs → Same (feedRules c (length m) rs) (feedTable c m cs)
-  before-run t =
-      row (t-bad-chain (c .count) (c .kinds) (length m)) (row (t-ill-formed c) (row (t-eq (c .place .running) closed) t))
+  none-same : (claims : List ByteClaim) → AllEnd claims → ((P : Chain → ℕ → Type 0) → Ends P → AtSome c m s P → ⊥)
+      → Same (noRules claims) (claimsOf (AtSome c m s) claims)
+  none-same [] e h = end
+  none-same ((n whenever P) ∷ claims) e h = row (m-false (h P (e .0))) (none-same claims (e .1) h)
 
-  none-table : ((P : Chain → ℕ → Type 0) → Ends P → AtSome c m s P → ⊥) → sliceNumber c m s ≡ firstOf (feedRules c (length m) noRules) more
+  none-table : ((P : Chain → ℕ → Type 0) → Ends P → AtSome c m s P → ⊥) → sliceNumber c m s ≡ firstOf (feedRules c (length m) (noRules byteClaims)) more
       → Table (sliceNumber c m s) (sliceTable c m s) more
   none-table h e =
-      rw e
-      (table (feedRules c (length m) noRules) (sliceTable c m s) more tt
-      (before-run
-      (row (t-false (h Five five-ends))
-      (row (t-false (h Eight eight-ends))
-      (row (t-false (h Nine nine-ends))
-      (row (t-false (h Ten ten-ends))
-      (row (t-false (h Six six-ends))
-      (row (t-false (h Seven seven-ends))
-      (row (t-false (h Eleven eleven-ends))
-      (row (t-false (h Twelve twelve-ends))
-      (row (t-false (h Accepts accepts-ends))
-      end)))))))))))
+      rw e (table (feedRules c (length m) (noRules byteClaims)) (sliceTable c m s) more tt (feed-same c m (none-same byteClaims own-ends h)))
 
-  end-table : (z : feedNumber c (length m) ≡ done) (k : ℕ) → k < length s → sliceNumber c m (take k s) ≡ more → sliceNumber c m (take (suc k) s) ≢ more
-      → Table (sliceNumber c m s) (sliceTable c m s) more
-  end-table z k l h n =
-      let d = sliceOf c m (take k s) .chain in
-      let b = getD s k 0 in
-      rw number
-      (table (feedRules c (length m) (byteRules d b)) (sliceTable c m s) more tt
-      (before-run
-      (same-alike (own-same d b)
-      (like (at-end c m s z Five five-ends k l h n)
-      (like (at-end c m s z Eight eight-ends k l h n)
-      (like (at-end c m s z Nine nine-ends k l h n)
-      (like (at-end c m s z Ten ten-ends k l h n)
-      (like (at-end c m s z Six six-ends k l h n)
-      (like (at-end c m s z Seven seven-ends k l h n)
-      (like (at-end c m s z Eleven eleven-ends k l h n)
-      (like (at-end c m s z Twelve twelve-ends k l h n)
-      (like (at-end c m s z Accepts accepts-ends k l h n)
-      same))))))))))))
-    where
-      number : sliceNumber c m s ≡ firstOf (feedRules c (length m) (byteRules (sliceOf c m (take k s) .chain) (getD s k 0))) more
-      number =
-          ap (λ (f : Fed). f .answer .number) (over-at c m s z k n)
-          ∙ at-byte c m s z k l h
-          ∙ own-number (sliceOf c m (take k s) .chain) (getD s k 0)
-          ∙ sym (feed-passes c (length m) (byteRules (sliceOf c m (take k s) .chain) (getD s k 0)) more z)
+  -- the slice ends at its byte k
+  module _ (z : feedNumber c (length m) ≡ done) (k : ℕ) (l : k < length s) (h : sliceNumber c m (take k s) ≡ more) (n : sliceNumber c m (take (suc k) s) ≢ more) where
+    abbrev there : Chain
+    there = sliceOf c m (take k s) .chain
+
+    abbrev byte : ℕ
+    byte = getD s k 0
+
+    at-ends : (claims : List ByteClaim) → AllEnd claims → Alike (claimsOf (λ P. P there byte) claims) (claimsOf (AtSome c m s) claims)
+    at-ends [] e = same
+    at-ends ((i whenever P) ∷ claims) e = like (at-end c m s z P (e .0) k l h n) (at-ends claims (e .1))
+
+    end-number : sliceNumber c m s ≡ firstOf (feedRules c (length m) (byteRules there byte)) more
+    end-number =
+        ap (λ (f : Fed). f .answer .number) (over-at c m s z k n)
+        ∙ at-byte c m s z k l h
+        ∙ own-number there byte
+        ∙ sym (feed-passes c (length m) (byteRules there byte) more z)
+
+    end-table : Table (sliceNumber c m s) (sliceTable c m s) more
+    end-table =
+        rw end-number
+        (table (feedRules c (length m) (byteRules there byte)) (sliceTable c m s) more tt
+        (feed-same c m (same-alike (own-same there byte) (at-ends byteClaims own-ends))))
 
   pub slice-table : Table (sliceOf c m s .answer .number) (sliceTable c m s) more
   slice-table =
@@ -246,13 +193,13 @@ module _ (c : Chain) (m s : List ℕ) where
       ⊎-elim
       (λ h.
       let g : sliceNumber c m s ≡ more = ap (sliceNumber c m) (sym (take-length s)) ∙ h in
-      none-table (λ P ends. never c m s z P ends g) (g ∙ sym (feed-passes c (length m) noRules more z)))
+      none-table (λ P ends. never c m s z P ends g) (g ∙ sym (feed-passes c (length m) (noRules byteClaims) more z)))
       (λ x. end-table z (x .0) (x .1) (x .2) (x .3))
       (turn (λ (k : ℕ). sliceNumber c m (take k s)) (nothing z) (length s)))
       (λ e.
       let z = eqb-false (feedNumber c (length m)) done e in
       none-table (λ P ends a. feed-never-more c (length m) (sym (slice-off c m (take (a .k) s) z) ∙ a .before))
-      (slice-off c m s z ∙ sym (feed-gives c (length m) noRules more z)))
+      (slice-off c m s z ∙ sym (feed-gives c (length m) (noRules byteClaims) more z)))
     where
       nothing : feedNumber c (length m) ≡ done → sliceNumber c m [] ≡ more
       nothing z = slice-on c m [] z ∙ run-none c m

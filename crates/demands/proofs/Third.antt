@@ -20,7 +20,8 @@ use Rattle.demands.proofs.Along.{sentOf}
 use Rattle.demands.proofs.Accepted.{Accepted, accepted-done, accepted-open, accepted-bytes, accepted-taken}
 use Rattle.demands.proofs.Free.{unbarred-stream}
 use Rattle.demands.proofs.Restart.{Restarted, restart}
-use Rattle.demands.proofs.Opened.{state-sound, open-sound, closed-sound, count-sound, opened-sound, start-done}
+use Rattle.chain.proofs.Sound.{feed-closed}
+use Rattle.demands.proofs.Opened.{count-sound, opened-sound, start-done}
 use Rattle.demands.proofs.Given.{Closing, ours, Open, Shuts, Given}
 use Rattle.demands.proofs.Parse.{Parsed}
 use Rattle.demands.proofs.Stop.{run-count, run-kinds, bytes-take, length-bytes, Left, left}
@@ -115,7 +116,7 @@ module _ (closing : Closing) (given : Given closing) (c : Chain) (m : List ℕ) 
       all-taken
 
   parsed : Parsed c mode writing bs
-  parsed = let n = count-sound c (length m) (state-sound c (length m) (idle .sound)) in
+  parsed = let n = count-sound c (length m) (idle .sound) in
       given .parse c mode writing bs (n .0) (n .1) small accepted
 
   reading : Reading c mode bs
@@ -158,7 +159,7 @@ module _ (closing : Closing) (given : Given closing) (c : Chain) (m : List ℕ) 
     shut = with·place (stop .chain) closedPlace
 
     shut-sound : stateNumber shut (length (stop .memory)) ≡ done
-    shut-sound = closed-sound (stop .chain) (length (stop .memory)) (open-sound (stop .chain) (length (stop .memory)) (stop-open .sound))
+    shut-sound = feed-closed (stop .chain) (length (stop .memory)) (stop-open .sound)
 
     restarted : Restarted (begun c mode) (begun shut mode) m (stop .memory) bs
     restarted =

@@ -1,6 +1,6 @@
 -- The writer's numbers: window by window 11 and 12 are those of the first window that is not within the size. Assumes nothing.
 use Prim.Native.Nat.{ℕ, zero, suc, _<_, _≤_}
-use mathlib.Core.Bool.{false≢true}
+use mathlib.Core.Bool.{true}
 use mathlib.Core.Path.{_≡_, refl}
 use mathlib.Core.List.{List, [], _∷_}
 use native.Mathlib.Nat.{not-suc-le-zero, le-of-suc-le-suc}
@@ -9,23 +9,15 @@ use borrow.Author.Tests.{eqb-true, eq-eqb}
 use lib.Dec.{eqb}
 use lib.ListN.{length, getD, take}
 use Rattle.chain.specs.Paper.{done, bad-start, bad-end}
-use Rattle.chain.specs.Kinds.{sizeOf}
-use Rattle.chain.proofs.ByCases.{by-test}
 use Rattle.writer.specs.Stream.{streamOf}
 use Rattle.writer.specs.Write.{windowsNumber, writeRules, numberOf, writeNumber, writeOf}
 use Rattle.writer.proofs.Accepted.{Within}
 use Rattle.writer.proofs.First.{UpTo, First, first, first-only}
-use Rattle.demands.specs.Formed.{Known}
-use Rattle.demands.specs.Table.{Table, Reached, FirstStart, FirstEnd, writeTable}
-use Rattle.demands.proofs.Table.{Tests, table, reads}
-use Rattle.demands.proofs.Formed.{t-known}
-
-pub t-unknown-kind : (k : ℕ) → Tests (eqb (sizeOf k) 0) (Known k → ⊥)
-t-unknown-kind k =
-    record {
-      says = λ e x. false≢true (rw e at (t-known k .said x));
-      said = λ h. by-test (eqb (sizeOf k) 0) (λ e. e) (λ e. absurd (h (t-known k .says (rw e refl))));
-    }
+use Rattle.chain.specs.Table.{Table}
+use Rattle.chain.proofs.Means.{Means}
+use Rattle.chain.proofs.BadChain.{m-unknown}
+use Rattle.chain.proofs.Table.{table, table-reads}
+use Rattle.demands.specs.Table.{Reached, FirstStart, FirstEnd, writeTable}
 
 -- ---- windows one by one, and window j
 
@@ -74,15 +66,15 @@ module _ (size : ℕ) (ss es : List ℕ) where
   find-end n (First.start i u h) e = absurd (omega arith)
   find-end n (First.end i u h g) e = (i, to-reached i u, h, g)
 
-  pub t-first-start : Tests (eqb (windowsNumber size ss es) bad-start) (FirstStart size ss es)
-  t-first-start =
+  pub m-first-start : Means (eqb (windowsNumber size ss es) bad-start) true (FirstStart size ss es)
+  m-first-start =
       record {
         says = λ e. find-start (windowsNumber size ss es) (first size ss es) (eqb-true (windowsNumber size ss es) bad-start e);
         said = λ f. eq-eqb (windowsNumber size ss es) bad-start (first-only size ss es bad-start (First.start (f .0) (of-reached (f .0) (f .1)) (f .2)));
       }
 
-  pub t-first-end : Tests (eqb (windowsNumber size ss es) bad-end) (FirstEnd size ss es)
-  t-first-end =
+  pub m-first-end : Means (eqb (windowsNumber size ss es) bad-end) true (FirstEnd size ss es)
+  m-first-end =
       record {
         says = λ e. find-end (windowsNumber size ss es) (first size ss es) (eqb-true (windowsNumber size ss es) bad-end e);
         said = λ f. eq-eqb (windowsNumber size ss es) bad-end (first-only size ss es bad-end (First.end (f .0) (of-reached (f .0) (f .1)) (f .2) (f .3)));
@@ -94,4 +86,4 @@ unfolding writeOf writeNumber numberOf
 write-table kind mode control address starts ends bytes out =
     table (writeRules kind mode starts ends (length bytes) (length (streamOf mode control address starts ends bytes)) (length out))
     (writeTable kind mode control address starts ends bytes out) done tt
-    (search (t-unknown-kind, t-first-start, t-first-end, reads) depth 40)
+    (search (m-unknown, m-first-start, m-first-end, table-reads) depth 40)

@@ -14,7 +14,7 @@ use Rattle.demands.specs.Loader.{Loader, Idle, Mode}
 use Rattle.demands.specs.Demand2.{Lets, Fitting, Loads, Demand2a}
 use Rattle.demands.specs.Demand3.{offered}
 use Rattle.demands.specs.Files.{Wrote, Demand2b}
-use Rattle.demands.proofs.Opened.{state-sound, count-sound}
+use Rattle.demands.proofs.Opened.{count-sound}
 use Rattle.demands.proofs.SecondB.{section-small}
 
 -- the section that was written
@@ -48,6 +48,6 @@ pub written-loads : (l : Loader) (a : Demand2a l) (q : Demand2b l) (kind mode co
     → Loads l check mode c m (streamSent c mode (sectionOf control a0 a1 a2 (q kind mode control a0 a1 a2 ss es d out c u z .windows)) [])
 written-loads l a q kind mode control a0 a1 a2 ss es d out c m check u z first i o lets =
     let w = q kind mode control a0 a1 a2 ss es d out c u z in
-    let some = count-sound c (length m) (state-sound c (length m) (i .sound)) .0 in
+    let some = count-sound c (length m) (i .sound) .0 in
     a c m check mode (sectionOf control a0 a1 a2 (w .windows)) [] i o
     (written-fits l kind mode control a0 a1 a2 ss es d (offered (l .write kind mode control (a0 ∷ a1 ∷ a2 ∷ []) ss es d out)) c w some first u check lets)

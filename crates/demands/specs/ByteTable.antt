@@ -5,13 +5,13 @@ use mathlib.Core.Path.{_≡_}
 use mathlib.Core.List.{List, [], _∷_}
 use lib.ListN.{length, getD, take}
 use Rattle.chain.specs.declared.Chain.{Chain}
-use Rattle.chain.specs.Paper.{preamble, postamble, at·preamble, at·second, at·control, at·start-low, at·end-low, at·check, closed, checking, two-preambles, done, no-preamble, barred, no-check, bad-check-byte, ends-here, last-device, bad-start, bad-end, more, bit2, bit3, bit4}
+use Rattle.chain.specs.Paper.{preamble, postamble, at·preamble, at·second, at·control, at·start-low, at·end-low, at·check, checking, two-preambles, done, no-preamble, barred, no-check, bad-check-byte, ends-here, last-device, bad-start, bad-end, more, bit2, bit3, bit4}
 use Rattle.chain.specs.Kinds.{sizeHere}
 use Rattle.chain.specs.Window.{withLow}
 use Rattle.machine.specs.Byte.{nextDevice}
 use Rattle.machine.specs.Calls.{sliceOf}
-use Rattle.demands.specs.Formed.{BadChain, IllFormed, Sets}
-use Rattle.demands.specs.Table.{Claim, _when_, feedTable}
+use Rattle.chain.specs.WellFormed.{Sets}
+use Rattle.chain.specs.Table.{Claim, _when_, feedTable}
 
 -- the byte a is awaited
 abbrev pub Awaits : Chain → ℕ → Type 0
@@ -64,19 +64,33 @@ Twelve c b = Awaits c at·end-low × ((withLow (c .place .end) b < c .place .sta
 abbrev pub Accepts : Chain → ℕ → Type 0
 Accepts c b = Awaits c at·check × (b ≡ postamble)
 
+-- a number of a byte, and its condition
+pub data ByteClaim : Type 1 where
+  _whenever_ : ℕ → (Chain → ℕ → Type 0) → ByteClaim
+
+infix 1 _whenever_
 -- the byte's own: at a preamble 5, 6, 7; at 13: 8, 9, 10, 6, 7
-abbrev pub ownTable : Chain → ℕ → List Claim
-ownTable c b =
-    (no-preamble when Five c b)
-    ∷ (bad-check-byte when Eight c b)
-    ∷ (ends-here when Nine c b)
-    ∷ (last-device when Ten c b)
-    ∷ (barred when Six c b)
-    ∷ (no-check when Seven c b)
-    ∷ (bad-start when Eleven c b)
-    ∷ (bad-end when Twelve c b)
-    ∷ (done when Accepts c b)
+abbrev pub byteClaims : List ByteClaim
+byteClaims =
+    (no-preamble whenever Five)
+    ∷ (bad-check-byte whenever Eight)
+    ∷ (ends-here whenever Nine)
+    ∷ (last-device whenever Ten)
+    ∷ (barred whenever Six)
+    ∷ (no-check whenever Seven)
+    ∷ (bad-start whenever Eleven)
+    ∷ (bad-end whenever Twelve)
+    ∷ (done whenever Accepts)
     ∷ []
+
+-- each condition as At has it
+abbrev pub claimsOf : ((Chain → ℕ → Type 0) → Type 0) → List ByteClaim → List Claim
+claimsOf At [] = []
+claimsOf At ((n whenever P) ∷ claims) = (n when At P) ∷ claimsOf At claims
+
+-- of the byte b
+abbrev pub ownTable : Chain → ℕ → List Claim
+ownTable c b = claimsOf (λ P. P c b) byteClaims
 
 -- 1, 17, 4, then the byte's own
 abbrev pub byteTable : Chain → List ℕ → ℕ → List Claim
@@ -95,34 +109,17 @@ pub record AtSome (c : Chain) (m s : List ℕ) (P : Chain → ℕ → Type 0) : 
   pub holds : P (sliceOf c m (take k s) .chain) (getD s k 0)
 
 abbrev pub sliceTable : Chain → List ℕ → List ℕ → List Claim
-sliceTable c m s =
-    feedTable c m
-    ((no-preamble when AtSome c m s Five)
-    ∷ (bad-check-byte when AtSome c m s Eight)
-    ∷ (ends-here when AtSome c m s Nine)
-    ∷ (last-device when AtSome c m s Ten)
-    ∷ (barred when AtSome c m s Six)
-    ∷ (no-check when AtSome c m s Seven)
-    ∷ (bad-start when AtSome c m s Eleven)
-    ∷ (bad-end when AtSome c m s Twelve)
-    ∷ (done when AtSome c m s Accepts)
-    ∷ [])
+sliceTable c m s = feedTable c m (claimsOf (AtSome c m s) byteClaims)
 
 -- ---- each number by itself
 
--- the state takes a byte: none of 1, 17 and 4 is given
-pub record Running (c : Chain) (m : List ℕ) : Type 0 where
-  pub chain : BadChain (c .count) (c .kinds) (length m) → ⊥
-  pub formed : IllFormed c → ⊥
-  pub runs : c .place .running ≢ closed
-
--- which number a byte of such a state gives, with only those earlier conditions that can meet it
-pub record ByteNumbers (c : Chain) (m : List ℕ) (b : ℕ) : Type 0 where
-  pub five : sliceNumber c m (b ∷ []) ≡ no-preamble ↔ Five c b
-  pub six : sliceNumber c m (b ∷ []) ≡ barred ↔ Six c b × (Nine c b → ⊥) × (Ten c b → ⊥)
-  pub seven : sliceNumber c m (b ∷ []) ≡ no-check ↔ Seven c b × (Nine c b → ⊥) × (Ten c b → ⊥) × (Six c b → ⊥)
-  pub eight : sliceNumber c m (b ∷ []) ≡ bad-check-byte ↔ Eight c b
-  pub nine : sliceNumber c m (b ∷ []) ≡ ends-here ↔ Nine c b
-  pub ten : sliceNumber c m (b ∷ []) ≡ last-device ↔ Ten c b × (Nine c b → ⊥)
-  pub eleven : sliceNumber c m (b ∷ []) ≡ bad-start ↔ Eleven c b
-  pub twelve : sliceNumber c m (b ∷ []) ≡ bad-end ↔ Twelve c b
+-- which of its own numbers a byte gives, with only those earlier conditions that can meet it
+pub record ByteNumbers (number : ℕ) (c : Chain) (b : ℕ) : Type 0 where
+  pub five : number ≡ no-preamble ↔ Five c b
+  pub six : number ≡ barred ↔ Six c b × (Nine c b → ⊥) × (Ten c b → ⊥)
+  pub seven : number ≡ no-check ↔ Seven c b × (Nine c b → ⊥) × (Ten c b → ⊥) × (Six c b → ⊥)
+  pub eight : number ≡ bad-check-byte ↔ Eight c b
+  pub nine : number ≡ ends-here ↔ Nine c b
+  pub ten : number ≡ last-device ↔ Ten c b × (Nine c b → ⊥)
+  pub eleven : number ≡ bad-start ↔ Eleven c b
+  pub twelve : number ≡ bad-end ↔ Twelve c b

@@ -8,6 +8,8 @@ use Rattle.chain.specs.declared.Chain.{Chain}
 use Rattle.chain.specs.Paper.{most-devices, done, more}
 use Rattle.chain.specs.Set.{with·place, closedPlace}
 use Rattle.chain.specs.Calls.{noChain, newOf, resetOf, resetMemory}
+use Rattle.chain.specs.Output.{NothingWritten}
+use Rattle.machine.specs.declared.Fed.{Fed}
 use Rattle.machine.specs.Calls.{startOf, sliceOf, sliceMemory}
 use Rattle.saved.specs.Calls.{saveOf, saveOutput, pickUpOf}
 use Rattle.closing.specs.Calls.{closingOf, closingOutput}
@@ -16,8 +18,9 @@ use Rattle.writer.specs.Write.{writeOf, writeOutput}
 use Rattle.lister.specs.declared.Listed.{Listed}
 use Rattle.lister.specs.Listing.{preambleAt, listedOf, listed, Lists}
 use Rattle.demands.specs.Grammar.{Bytes}
-use Rattle.demands.specs.Table.{Table, chainTable, startTable, closingTable, saveTable, PickUpNumbers, huntTable, writeTable}
-use Rattle.demands.specs.ByteTable.{byteTable, sliceNumber, sliceTable, Running, ByteNumbers}
+use Rattle.chain.specs.Table.{Table, chainTable, Running}
+use Rattle.demands.specs.Table.{startTable, closingTable, saveTable, PickUpNumbers, huntTable, writeTable}
+use Rattle.demands.specs.ByteTable.{byteTable, sliceNumber, sliceTable, ByteNumbers}
 use Rattle.demands.specs.ListTable.{listTable}
 
 -- each number exactly when. The lister's stream is of bytes, as its type in the code says
@@ -26,7 +29,7 @@ pub record Numbers : Type 0 where
   pub reset : (c : Chain) (m : List ℕ) → Table (resetOf c (length m) .number) (chainTable (c .count) (c .kinds) m) done
   pub start : (c : Chain) (m : List ℕ) (mode check : ℕ) → Table (startOf c (length m) mode check .number) (startTable c m mode) done
   pub byte : (c : Chain) (m : List ℕ) (b : ℕ) → Table (sliceOf c m (b ∷ []) .answer .number) (byteTable c m b) more
-  pub byte-own : (c : Chain) (m : List ℕ) (b : ℕ) → Running c m → ByteNumbers c m b
+  pub byte-own : (c : Chain) (m : List ℕ) (b : ℕ) → Running c m → ByteNumbers (sliceNumber c m (b ∷ [])) c b
   pub slice : (c : Chain) (m s : List ℕ) → Table (sliceOf c m s .answer .number) (sliceTable c m s) more
   pub closing : (c : Chain) (m out : List ℕ) → Table (closingOf c m (length out) .number) (closingTable c m out) done
   pub save : (c : Chain) (m out : List ℕ) → Table (saveOf c (length m) (length out) .number) (saveTable c m out) done
@@ -44,20 +47,23 @@ pub record AsLent (c : Chain) (m s : List ℕ) : Type 0 where
   pub taken : sliceOf c m s .answer .taken ≡ 0
   pub mismatches : sliceOf c m s .answer .mismatches ≡ 0
 
--- a slice that ends at its byte k: that byte counts as taken, closes the run, and changes no cell, no register and no count of
--- mismatches; what earlier bytes stored stays
-pub record EndedAt (c : Chain) (m s : List ℕ) (k : ℕ) : Type 0 where
-  pub chain : sliceOf c m s .chain ≡ with·place (sliceOf c m (take k s) .chain) closedPlace
-  pub memory : sliceMemory c m s ≡ sliceMemory c m (take k s)
-  pub taken : sliceOf c m s .answer .taken ≡ (sliceOf c m (take k s) .answer .taken + 1) % 2 ^ 32
-  pub mismatches : sliceOf c m s .answer .mismatches ≡ sliceOf c m (take k s) .answer .mismatches % 2 ^ 32
+-- a byte that ends a run, with those counts, in the state c and the memory m: it counts as taken, closes the run, and changes no cell, no
+-- register and no count of mismatches. f is the answer, m′ the memory left
+pub record Ended (c : Chain) (m : List ℕ) (taken mismatches : ℕ) (f : Fed) (m′ : List ℕ) : Type 0 where
+  pub chain : f .chain ≡ with·place c closedPlace
+  pub memory : m′ ≡ m
+  pub taken-one-more : f .answer .taken ≡ (taken + 1) % 2 ^ 32
+  pub mismatches-kept : f .answer .mismatches ≡ mismatches % 2 ^ 32
+
+-- a slice that ends at its byte k; what earlier bytes stored stays
+abbrev pub EndedAt : Chain → List ℕ → List ℕ → ℕ → Type 0
+EndedAt c m s k =
+    let f = sliceOf c m (take k s) in
+    Ended (f .chain) (sliceMemory c m (take k s)) (f .answer .taken) (f .answer .mismatches) (sliceOf c m s) (sliceMemory c m s)
 
 -- the same of a byte call
-pub record ByteEnded (c : Chain) (m : List ℕ) (b : ℕ) : Type 0 where
-  pub chain : sliceOf c m (b ∷ []) .chain ≡ with·place c closedPlace
-  pub memory : sliceMemory c m (b ∷ []) ≡ m
-  pub taken : sliceOf c m (b ∷ []) .answer .taken ≡ (c .place .taken + 1) % 2 ^ 32
-  pub mismatches : sliceOf c m (b ∷ []) .answer .mismatches ≡ c .place .mismatches % 2 ^ 32
+abbrev pub ByteEnded : Chain → List ℕ → ℕ → Type 0
+ByteEnded c m b = Ended c m (c .place .taken) (c .place .mismatches) (sliceOf c m (b ∷ [])) (sliceMemory c m (b ∷ []))
 
 -- a refused listing: all but the number and the bytes taken is 0, and the tables are as lent
 pub record ListRefused (starts ends offsets : List ℕ) (r : Listed) (starts′ ends′ offsets′ : List ℕ) : Type 0 where
@@ -82,15 +88,14 @@ pub record Refusals : Type 0 where
   pub slice-more : (c : Chain) (m s : List ℕ) → Bytes s → length (c .registers) ≡ most-devices → sliceNumber c m s ≡ more
       → Running (sliceOf c m s .chain) (sliceMemory c m s)
   pub closing : (c : Chain) (m out : List ℕ) → closingOf c m (length out) .number ≢ done
-      → (closingOf c m (length out) .length ≡ 0) × (closingOutput c m out ≡ out)
+      → NothingWritten (closingOf c m (length out) .length) out (closingOutput c m out)
   pub save : (c : Chain) (m out : List ℕ) → saveOf c (length m) (length out) .number ≢ done
-      → (saveOf c (length m) (length out) .length ≡ 0) × (saveOutput c (length m) out ≡ out)
+      → NothingWritten (saveOf c (length m) (length out) .length) out (saveOutput c (length m) out)
   pub pick-up : (c : Chain) (m s : List ℕ) → pickUpOf c (length m) s .number ≢ done → pickUpOf c (length m) s .chain ≡ c
-  pub hunt : (s out : List ℕ) → huntOf s (length out) .number ≢ done → (huntOf s (length out) .length ≡ 0) × (huntOut s out ≡ out)
+  pub hunt : (s out : List ℕ) → huntOf s (length out) .number ≢ done → NothingWritten (huntOf s (length out) .length) out (huntOut s out)
   pub write : (kind mode control : ℕ) (address starts ends bytes out : List ℕ)
       → writeOf kind mode control address starts ends bytes (length out) .number ≢ done
-      → (writeOf kind mode control address starts ends bytes (length out) .length ≡ 0)
-      × (writeOutput kind mode control address starts ends bytes out ≡ out)
+      → NothingWritten (writeOf kind mode control address starts ends bytes (length out) .length) out (writeOutput kind mode control address starts ends bytes out)
   pub list : (kind mode : ℕ) (s starts ends offsets : List ℕ) (r : Listed) (starts′ ends′ offsets′ : List ℕ)
       → Lists kind mode s starts ends offsets r starts′ ends′ offsets′ → r .number ≢ done
       → ListRefused starts ends offsets r starts′ ends′ offsets′

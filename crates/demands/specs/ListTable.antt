@@ -10,8 +10,8 @@ use Rattle.chain.specs.Kinds.{sizeOf}
 use Rattle.chain.specs.Calls.{newOf}
 use Rattle.machine.specs.Calls.{startOf}
 use Rattle.lister.specs.Listing.{preambleAt, countAt}
-use Rattle.demands.specs.Formed.{Known}
-use Rattle.demands.specs.Table.{Claim, _when_, NoMode}
+use Rattle.chain.specs.WellFormed.{Known}
+use Rattle.chain.specs.Table.{Claim, _when_, NoMode}
 use Rattle.demands.specs.ByteTable.{sliceNumber}
 
 -- one freshly reset device, a write started on it

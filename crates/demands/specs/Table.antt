@@ -1,12 +1,14 @@
--- 'Given exactly when': document 01's table of numbers for each call, its conditions in its own order. Bytes and slices are in ByteTable. Assumes nothing.
+-- Document 01's table of numbers for each call, its conditions in its own order. Bytes and slices are in ByteTable. Assumes nothing.
 use Prim.Native.Nat.{ℕ, _+_, _*_, _<_, _≤_}
 use mathlib.Core.Logic.{_↔_, _⊎_, _≢_}
 use mathlib.Core.Path.{_≡_}
-use mathlib.Core.List.{List, [], _∷_, _++_}
+use mathlib.Core.List.{List, [], _∷_}
 use lib.ListN.{length, getD}
 use Rattle.chain.specs.declared.Chain.{Chain}
-use Rattle.chain.specs.Paper.{preamble, closed, opened, first-mode, two-preambles, done, bad-chain, bad-mode, run-open, no-run, no-preamble, bad-start, bad-end, bad-tables, bad-data, too-short, ill-formed}
+use Rattle.chain.specs.Paper.{preamble, closed, opened, done, bad-chain, bad-mode, run-open, no-preamble, bad-start, bad-end, bad-tables, bad-data, too-short, ill-formed}
 use Rattle.chain.specs.Kinds.{sizeOf}
+use Rattle.chain.specs.WellFormed.{Known, BadChain, IllFormed}
+use Rattle.chain.specs.Table.{Claim, _when_, stateTable, openTable, NoMode}
 use Rattle.saved.specs.Layout.{saved-length}
 use Rattle.saved.specs.Calls.{pickUpOf}
 use Rattle.closing.specs.Closing.{closingBytes}
@@ -14,51 +16,7 @@ use Rattle.hunt.specs.Bits.{byteAt}
 use Rattle.hunt.specs.Hunt.{nowhere, huntedBytes}
 use Rattle.writer.specs.Stream.{streamOf}
 use Rattle.writer.specs.Write.{most-windows, sumOf}
-use Rattle.demands.specs.Formed.{Known, Between, BadChain, IllFormed, WellSaved}
-
--- a number and its condition
-pub data Claim : Type 1 where
-  _when_ : ℕ → Type 0 → Claim
-
-infix 1 _when_
--- none of the conditions holds
-abbrev pub NoneOf : List Claim → Type 0
-NoneOf [] = Unit {0}
-NoneOf ((n when P) ∷ claims) = (P → ⊥) × NoneOf claims
-
--- each number is the answer exactly when its condition holds and none before it does, n exactly when none holds
-abbrev pub TableAfter : List Claim → ℕ → List Claim → ℕ → Type 0
-TableAfter before answer [] n = answer ≡ n ↔ NoneOf before
-TableAfter before answer ((m when P) ∷ claims) n =
-    (answer ≡ m ↔ NoneOf before × P) × TableAfter (before ++ ((m when P) ∷ [])) answer claims n
-
-abbrev pub Table : ℕ → List Claim → ℕ → Type 0
-Table answer claims n = TableAfter [] answer claims n
-
--- ---- a state
-
--- new and reset
-abbrev pub chainTable : ℕ → List ℕ → List ℕ → List Claim
-chainTable count kinds m = (bad-chain when BadChain count kinds (length m)) ∷ []
-
--- every other call on a state: 1, then 17
-abbrev pub stateTable : Chain → List ℕ → List Claim → List Claim
-stateTable c m claims =
-    (bad-chain when BadChain (c .count) (c .kinds) (length m))
-    ∷ (ill-formed when IllFormed c)
-    ∷ claims
-
--- byte, slice, closing or save with no run open: 4
-abbrev pub openTable : Chain → List ℕ → List Claim → List Claim
-openTable c m claims = stateTable c m ((no-run when c .place .running ≡ closed) ∷ claims)
-
--- a call that feeds bytes: the same
-abbrev pub feedTable : Chain → List ℕ → List Claim → List Claim
-feedTable c m claims = openTable c m claims
-
--- a mode not 1 to 6
-abbrev pub NoMode : ℕ → Type 0
-NoMode mode = Between first-mode two-preambles mode → ⊥
+use Rattle.demands.specs.Formed.{WellSaved}
 
 -- start: 2, and 3 while a run is open
 abbrev pub startTable : Chain → List ℕ → ℕ → List Claim

@@ -1,14 +1,12 @@
 -- What a byte leaves of the place: running, mode, check and the counts are not the advance's. Assumes nothing.
-use Prim.Native.Nat.{ℕ, _+_, _-_}
-use mathlib.Core.Bool.{Bool, true, false}
+use Prim.Native.Nat.{ℕ, _+_}
+use mathlib.Core.Bool.{Bool}
 use mathlib.Core.Path.{_≡_, refl}
-use mathlib.Core.List.{List, [], _∷_}
-use lib.Dec.{eqb, ltb, leb}
+use lib.Dec.{ltb, leb}
 use Rattle.chain.specs.declared.Place.{Place}
-use Rattle.chain.specs.Paper.{no-windows, at·null, at·check}
-use Rattle.chain.specs.Set.{with·awaited, with·left, with·next}
-use Rattle.chain.specs.Rules.{Row, _⇒_, rowOf, pick}
-use Rattle.machine.specs.Byte.{noWindow, passedOf, advanceRows, advanceOf}
+use Rattle.chain.specs.Rules.{pick}
+use Rattle.chain.proofs.ByCases.{either-way}
+use Rattle.machine.specs.Byte.{passedOf, advanceOf}
 
 pub record Frame (p q : Place) : Type 0 where
   pub running : q .running ≡ p .running
@@ -23,22 +21,14 @@ framed : {p q : Place} → q .running ≡ p .running → q .mode ≡ p .mode →
 framed a b c d e = record { running = a; mode = b; check = c; taken = d; mismatches = e }
 
 frame-pick : (p : Place) (t : Bool) (x y : Place) → Frame p x → Frame p y → Frame p (pick t x y)
-frame-pick p true x y f g = f
-frame-pick p false x y f g = g
-
-pick-device : (t : Bool) (x y : Place) (d : ℕ) → x .device ≡ d → y .device ≡ d → pick t x y .device ≡ d
-pick-device true x y d a b = a
-pick-device false x y d a b = b
+frame-pick p t x y f g = either-way (Frame p) t x y f g
 
 -- data bytes stay in their device
 pub passed-device : (p : Place) (n : ℕ) → passedOf p n .device ≡ p .device
 unfolding passedOf
 passed-device p n =
-    pick-device (leb (p .next + n) (p .end)) (with·next p (p .next + n))
-    (pick (ltb 1 (p .left)) (with·awaited (with·left (noWindow p) (p .left - 1)) at·null) (with·awaited (with·left (noWindow p) 0) at·check))
-    (p .device) refl
-    (pick-device (ltb 1 (p .left)) (with·awaited (with·left (noWindow p) (p .left - 1)) at·null) (with·awaited (with·left (noWindow p) 0) at·check)
-    (p .device) refl refl)
+    either-way (λ (q : Place). q .device ≡ p .device) (leb (p .next + n) (p .end)) _ _ refl
+    (either-way (λ (q : Place). q .device ≡ p .device) (ltb 1 (p .left)) _ _ refl refl)
 
 pub advance-frame : (p : Place) (b : ℕ) → Frame p (advanceOf p b)
 unfolding advanceOf passedOf

@@ -1,7 +1,7 @@
--- A step, and a run, from a well-formed open place: closed, or well formed. Assumes nothing.
+-- A byte, and a run, from a well-formed open place: closed, or well formed. Assumes nothing.
 use Prim.Native.Nat.{ℕ, _<_, _≤_}
 use mathlib.Core.Bool.{true, and-false}
-use mathlib.Core.Path.{_≡_, sym, _∙_}
+use mathlib.Core.Path.{_≡_, _∙_}
 use mathlib.Core.List.{List}
 use borrow.Author.Tests.{eqb-true}
 use lib.Dec.{eqb}
@@ -13,11 +13,11 @@ use Rattle.chain.specs.Set.{with·place, closedPlace}
 use Rattle.chain.specs.State.{wellFormed, stateNumber, feedNumber}
 use Rattle.chain.proofs.Bytes.{Bytes}
 use Rattle.chain.proofs.ByCases.{by-test}
-use Rattle.chain.proofs.WellFormed.{formed-of}
-use Rattle.chain.proofs.Sound.{Sound, feed-sound, sound-feed, sound-closed}
+use Rattle.chain.proofs.WellFormed.{formed-of, of-formed}
+use Rattle.chain.proofs.Sound.{Sound, feed-sound, sound-feed, feed-closed}
 use Rattle.machine.specs.Byte.{numberOf}
-use Rattle.machine.specs.Run.{missedOf, registersOf, counted, Run, run, wentOn, stepOf, runOf}
-use Rattle.machine.proofs.Runs.{step-went, step-number, After, run-by, memory-length, registers-length}
+use Rattle.machine.specs.Run.{missedOf, registersOf, counted, Run, run, wentOn, runOf}
+use Rattle.machine.proofs.Runs.{After, run-by, memory-length, registers-length}
 use Rattle.machine.proofs.Stays.{went-stays}
 use Rattle.machine.proofs.Steps.{advance-keeps}
 
@@ -48,35 +48,16 @@ module _ (c : Chain) (m : List ℕ) (b : ℕ) where
       advance-keeps c (counted (c .place) 1 (missedOf c m b)) b small few eight
       (counted-keeps c (c .registers) (c .place) 1 (missedOf c m b) (write-misses c m b) h) n
 
-  pub step-keeps : b < 256 → c .count ≤ most-devices → length (c .registers) ≡ most-devices
-      → wellFormed c (c .registers) (c .place) ≡ true → stepOf c m b .number ≡ more
-      → wellFormed (stepOf c m b .chain) (stepOf c m b .chain .registers) (stepOf c m b .chain .place) ≡ true
-  step-keeps small few eight h n =
-      let e : numberOf c b ≡ more = sym (step-number c m b) ∙ n in
-      rw (step-went c m b e) (went-keeps small few eight h e)
-
--- ---- a run
-
-pub run-keeps : (c : Chain) (m bs : List ℕ) → Bytes bs → c .count ≤ most-devices → length (c .registers) ≡ most-devices
-    → wellFormed c (c .registers) (c .place) ≡ true → runOf (run c m more) bs .number ≡ more
-    → wellFormed (runOf (run c m more) bs .chain) (runOf (run c m more) bs .chain .registers) (runOf (run c m more) bs .chain .place) ≡ true
-run-keeps c m bs small few eight h n =
-    run-by
-    (λ d _. (d .count ≤ most-devices) × (length (d .registers) ≡ most-devices) × (wellFormed d (d .registers) (d .place) ≡ true))
-    (λ _. Unit {0})
-    (λ d k b small n s. (s .0, registers-length d k b ∙ s .1, went-keeps d k b small (s .0) (s .1) (s .2) n))
-    (λ _ _ _ _ _. tt) bs small c m (few, eight, h) .going n .2
-
 -- ---- the state: where a slice is taken, it is taken again
 
 pub went-sound : (c : Chain) (m : List ℕ) (b len : ℕ) → b < 256 → length (c .registers) ≡ most-devices → numberOf c b ≡ more
     → Sound c len → Sound (wentOn c m b) len
 went-sound c m b len small eight n s =
-    let w = went-keeps c m b small (s .fits .few) eight (s .formed) n in
+    let u = s .usable in
+    let d = wentOn c m b in
+    let w = formed-of d (d .registers) (d .place) (went-keeps c m b small (u .fits .few) eight (of-formed c (c .registers) (c .place) (s .formed)) n) in
     record {
-      fits = s .fits;
-      kinds = s .kinds;
-      registers = formed-of (wentOn c m b) (wentOn c m b .registers) (wentOn c m b .place) w .unused;
+      usable = record { fits = u .fits; kinds = u .kinds; registers = w .unused-registers };
       running = went-stays c m b .running ∙ s .running;
       formed = w;
     }
@@ -96,7 +77,7 @@ module _ (c : Chain) (m bs : List ℕ) (small : Bytes bs) (eight : length (c .re
         registers-length d k b ∙ s .0,
         rw (memory-length d k b) (sound-feed (wentOn d k b) (length k) (went-sound d k b (length k) small (s .0) n (feed-sound d (length k) (s .1)))),
       ))
-      (λ d k b n s. sound-closed d (length k) (feed-sound d (length k) (s .1))) bs small c m (eight, h)
+      (λ d k b n s. feed-closed d (length k) (s .1)) bs small c m (eight, h)
 
   pub run-open : runOf (run c m more) bs .number ≡ more
       → feedNumber (runOf (run c m more) bs .chain) (length (runOf (run c m more) bs .memory)) ≡ done

@@ -12,7 +12,8 @@ use Rattle.chain.specs.Set.{with·place}
 use Rattle.chain.specs.State.{unusedZero, wellFormed, stateRules, stateNumber, feedNumber}
 use Rattle.chain.proofs.ByCases.{by-test}
 use Rattle.chain.proofs.FirstOf.{first-none, none-first}
-use Rattle.chain.proofs.Sound.{sound-feed, fits-of, unused-of}
+use Rattle.chain.proofs.WellFormed.{m-unused, formed-of}
+use Rattle.chain.proofs.Sound.{state-usable, sound-feed}
 use Rattle.machine.specs.Calls.{startRules, startNumber, openedPlace, startOf}
 
 opened-formed : (c : Chain) (mode check : ℕ) → 1 ≤ c .count → unusedZero (c .registers) (c .count) ≡ true → from first-mode two-preambles mode ≡ true
@@ -24,13 +25,17 @@ opened-formed c mode check some u m =
 -- a run opened in a state that every call takes takes bytes
 pub opened-feeds : (c : Chain) (len mode check : ℕ) → stateNumber c len ≡ done → from first-mode two-preambles mode ≡ true
     → feedNumber (with·place c (openedPlace mode check)) len ≡ done
-unfolding stateNumber wellFormed
+unfolding wellFormed
 opened-feeds c len mode check h m =
-    let r = first-none (stateRules c len []) done tt h in
-    let f = fits-of (c .count) (c .kinds) len (r .0) in
-    let u = unused-of c (r .1 .0) in
-    sound-feed (with·place c (openedPlace mode check)) len
-    (record { fits = f; kinds = u .0; registers = u .1; running = refl; formed = opened-formed c mode check (f .some) (u .1) m })
+    let u = state-usable c len h in
+    let d = with·place c (openedPlace mode check) in
+    let w = opened-formed c mode check (u .fits .some) (m-unused (c .registers) (c .count) .said (u .registers)) m in
+    sound-feed d len
+    (record {
+      usable = record { fits = u .fits; kinds = u .kinds; registers = u .registers };
+      running = refl;
+      formed = formed-of d (c .registers) (openedPlace mode check) w;
+    })
 
 pub start-opens : (c : Chain) (len mode check : ℕ) → startNumber c len mode ≡ done
     → feedNumber (startOf c len mode check .chain) len ≡ done

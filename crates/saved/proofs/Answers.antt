@@ -11,31 +11,21 @@ use Rattle.chain.specs.declared.Chain.{Chain}
 use Rattle.chain.specs.declared.Place.{Place}
 use Rattle.chain.specs.Paper.{done, opened, closed, run-open, too-short, ill-formed}
 use Rattle.chain.specs.Rules.{_gives_, firstOf, allOf}
-use Rattle.chain.specs.State.{wellFormed, stateRules, openRules, stateNumber, openNumber}
+use Rattle.chain.specs.State.{wellFormed, stateNumber, openNumber}
+use Rattle.chain.proofs.Numbers.{state-gives, state-passes, open-gives, open-passes}
 use Rattle.saved.specs.Layout.{saved-length, savedBytes, heldFields, registersOf, placeOf, marks, wellSaved}
 use Rattle.saved.specs.Calls.{saveNumber, saveOf, saveOutput, pickUpNumber, pickedUp, pickUpOf}
-use Rattle.saved.proofs.Numbers.{None, none, first-on, first-off}
-
--- ---- numbers 1, 17 and 4
-
-pub state-none : (c : Chain) (len : ℕ) → stateNumber c len ≡ done → None (stateRules c len [])
-unfolding stateNumber
-state-none c len h = none (stateRules c len []) ((λ e. omega arith), ((λ e. omega arith), tt)) h
-
-pub open-none : (c : Chain) (len : ℕ) → openNumber c len ≡ done → None (openRules c len [])
-unfolding openNumber
-open-none c len h = none (openRules c len []) ((λ e. omega arith), ((λ e. omega arith), ((λ e. omega arith), tt))) h
 
 -- ---- save
 
 module _ (c : Chain) (len room : ℕ) where
   pub save-refused : (openNumber c len ≡ done → ⊥) → saveNumber c len room ≡ openNumber c len
-  unfolding saveNumber openNumber
-  save-refused h = first-off (openRules c len []) ((ltb room saved-length gives too-short) ∷ []) done h
+  unfolding saveNumber
+  save-refused h = open-gives c len ((ltb room saved-length gives too-short) ∷ []) done h
 
   pub save-asked : openNumber c len ≡ done → saveNumber c len room ≡ firstOf ((ltb room saved-length gives too-short) ∷ []) done
   unfolding saveNumber
-  save-asked h = first-on (openRules c len []) ((ltb room saved-length gives too-short) ∷ []) done (open-none c len h)
+  save-asked h = open-passes c len ((ltb room saved-length gives too-short) ∷ []) done h
 
 module _ (c : Chain) (len : ℕ) (out : List ℕ) where
   pub save-off : (n : ℕ) → (n ≡ done → ⊥) → saveNumber c len (length out) ≡ n
@@ -52,15 +42,15 @@ module _ (c : Chain) (len : ℕ) (out : List ℕ) where
 
 module _ (c : Chain) (len : ℕ) (s : List ℕ) where
   pub pick-up-refused : (stateNumber c len ≡ done → ⊥) → pickUpNumber c len s ≡ stateNumber c len
-  unfolding pickUpNumber stateNumber
+  unfolding pickUpNumber
   pick-up-refused h =
-      first-off (stateRules c len []) ((eqb (c .place .running) opened gives run-open) ∷ (not (wellSaved c s) gives ill-formed) ∷ []) done h
+      state-gives c len ((eqb (c .place .running) opened gives run-open) ∷ (not (wellSaved c s) gives ill-formed) ∷ []) done h
 
   pub pick-up-asked : stateNumber c len ≡ done
       → pickUpNumber c len s ≡ firstOf ((eqb (c .place .running) opened gives run-open) ∷ (not (wellSaved c s) gives ill-formed) ∷ []) done
   unfolding pickUpNumber
   pick-up-asked h =
-      first-on (stateRules c len []) ((eqb (c .place .running) opened gives run-open) ∷ (not (wellSaved c s) gives ill-formed) ∷ []) done (state-none c len h)
+      state-passes c len ((eqb (c .place .running) opened gives run-open) ∷ (not (wellSaved c s) gives ill-formed) ∷ []) done h
 
   pub pick-up-off : (n : ℕ) → (n ≡ done → ⊥) → pickUpNumber c len s ≡ n → record { chain = c; number = n } ≡ pickUpOf c len s
   unfolding pickUpOf

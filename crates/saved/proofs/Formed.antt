@@ -1,9 +1,11 @@
 -- What a well-formed place says of its fields: how large they are. Assumes nothing.
 use Prim.Native.Nat.{ℕ, _^_, _<_, _≤_}
 use mathlib.Core.Bool.{Bool, true, false, _&&_, false≢true}
+use mathlib.Core.Logic.{⊎-elim}
 use mathlib.Core.Path.{_≡_, refl}
 use mathlib.Core.List.{List}
 use native.Mathlib.Omega.{arith}
+use borrow.Author.Tests.{eqb-false}
 use lib.ListN.{getD}
 use lib.Dec.{eqb}
 use Rattle.chain.specs.declared.Chain.{Chain}
@@ -12,9 +14,8 @@ use Rattle.chain.specs.Paper.{closed, opened}
 use Rattle.chain.specs.Rules.{allOf}
 use Rattle.chain.specs.State.{badChain, illFormed, wellFormed, unusedZero}
 use Rattle.chain.proofs.AllOf.{all-each, each-row}
-use Rattle.chain.proofs.Means.{says, reads}
-use Rattle.chain.proofs.Sound.{fits-of, unused-of}
-use Rattle.chain.proofs.WellFormed.{formed-of, next-le-end}
+use Rattle.chain.proofs.BadChain.{m-fits}
+use Rattle.chain.proofs.WellFormed.{m-unused, formed-of, of-formed, m-not-ill, next-le-end}
 use Rattle.saved.proofs.Ranged.{Narrow}
 
 pub left-of : (a b : Bool) → (a && b) ≡ true → a ≡ true
@@ -33,12 +34,12 @@ module _ (c : Chain) (len : ℕ) (g : List ℕ) (p : Place) (h : badChain (c .co
   pub narrow : Narrow p
   narrow =
       let f = formed-of c g p w in
-      let n = fits-of (c .count) (c .kinds) len h .few in
+      let n = m-fits (c .count) (c .kinds) len .says h .few in
       record {
-        mode = omega (arith, f .mode .1);
-        check = omega (arith, f .check);
-        device = omega (arith, f .device, n);
-        awaited = omega (arith, f .awaited);
+        mode = omega (arith, f .mode-1-to-6);
+        check = omega (arith, f .write-or-check);
+        device = omega (arith, f .device-in-chain, n);
+        awaited = omega (arith, f .awaited-0-to-13);
       }
 
   pub next-fits : p .end < 2 ^ 16 → p .next < 2 ^ 16
@@ -47,15 +48,12 @@ module _ (c : Chain) (len : ℕ) (g : List ℕ) (p : Place) (h : badChain (c .co
 -- a state that is not 17 and not closed is open, and its place is well formed
 pub open-well : (c : Chain) → illFormed c ≡ false → eqb (c .place .running) closed ≡ false
     → (c .place .running ≡ opened) × (wellFormed c (c .registers) (c .place) ≡ true)
-unfolding illFormed
 open-well c h n =
-    let t : ((unusedZero (c .kinds) (c .count) ≡ true) × (unusedZero (c .registers) (c .count) ≡ true))
-    × ((c .place .running ≡ opened) × (wellFormed c (c .registers) (c .place) ≡ true))
-    = says (search reads depth 9) (rw n at h)
-    in t .1
+    let r = ⊎-elim (λ z. absurd (eqb-false (c .place .running) closed n z)) (λ w. w) (m-not-ill c .says h .1) in
+    (r .0, of-formed c (c .registers) (c .place) (r .1))
 
 pub kinds-unused : (c : Chain) → illFormed c ≡ false → unusedZero (c .kinds) (c .count) ≡ true
-kinds-unused c h = unused-of c h .0
+kinds-unused c h = m-unused (c .kinds) (c .count) .said (m-not-ill c .says h .0 .0)
 
 pub registers-unused : (c : Chain) (g : List ℕ) (p : Place) → wellFormed c g p ≡ true → unusedZero g (c .count) ≡ true
-registers-unused c g p w = formed-of c g p w .unused
+registers-unused c g p w = m-unused g (c .count) .said (formed-of c g p w .unused-registers)

@@ -3,7 +3,6 @@ pub mod Regroup
 pub mod Chunks
 pub mod Ranged
 pub mod Whole
-pub mod Numbers
 pub mod Formed
 pub mod Answers
 pub mod Only

@@ -22,7 +22,7 @@ use Rattle.saved.specs.Calls.{saveRules, saveNumber, saveOf, saveOutput,
 use Rattle.saved.proofs.Packing.{Fit, fields-fit, through}
 use Rattle.saved.proofs.Regroup.{elems, elems-is}
 use Rattle.saved.proofs.Ranged.{Ranged}
-use Rattle.saved.proofs.Numbers.{None, none}
+use Rattle.chain.proofs.FirstOf.{None, first-none}
 use Rattle.saved.proofs.Formed.{left-of, right-of, row, open-well, narrow, next-fits, kinds-unused, registers-unused}
 use Rattle.saved.proofs.Whole.{fits}
 use Rattle.saved.proofs.Answers.{save-asked, save-on, pick-up-on, found, picked, not-picked}
@@ -31,11 +31,11 @@ use Rattle.saved.proofs.Answers.{save-asked, save-on, pick-up-on, found
 
 save-none : (c : Chain) (len room : ℕ) → saveNumber c len room ≡ done → None (saveRules c len room)
 unfolding saveNumber
-save-none c len room h = none (saveRules c len room) ((λ e. omega arith), ((λ e. omega arith), ((λ e. omega arith), ((λ e. omega arith), tt)))) h
+save-none c len room h = first-none (saveRules c len room) done tt h
 
 pick-up-none : (c : Chain) (len : ℕ) (s : List ℕ) → pickUpNumber c len s ≡ done → None (pickUpRules c len s)
 unfolding pickUpNumber
-pick-up-none c len s h = none (pickUpRules c len s) ((λ e. omega arith), ((λ e. omega arith), ((λ e. omega arith), ((λ e. omega arith), tt)))) h
+pick-up-none c len s h = first-none (pickUpRules c len s) done tt h
 
 saved-number : (c : Chain) (len room : ℕ) (w : Written) → w ≡ saveOf c len room → w .number ≡ done → saveNumber c len room ≡ done
 unfolding saveOf

@@ -4,7 +4,8 @@ use native.Mathlib.Omega.{arith}
 use borrow.Author.Tests.{lt-ltb, le-ltb}
 use lib.ListN.{length}
 use Rattle.chain.specs.Paper.{too-short}
-use Rattle.saved.proofs.Answers.{open-none, save-refused, save-asked, save-off, save-on}
+use Rattle.chain.proofs.Numbers.{open-none}
+use Rattle.saved.proofs.Answers.{save-refused, save-asked, save-off, save-on}
 use Rattle.saved.proofs.Formed.{open-well, narrow}
 use borrow.Author.Needs.{needs}
 use Rattle.saved.proofs.save.Statement.{statement}
