@@ -32,7 +32,7 @@ use Rattle.demands.proofs.Table.{table}
 use Rattle.demands.proofs.CallTables.{state-reads}
 use Rattle.demands.proofs.ByteTables.{slice-fed, slice-unfed, slice-on}
 use Rattle.machine.proofs.Slices.{slice-open}
-use Rattle.demands.specs.Grammar.{Bytes}
+use Rattle.chain.specs.Bytes.{Bytes}
 use Rattle.demands.proofs.SliceTables.{open-of, at-byte}
 
 -- ---- calls that hand a state back
