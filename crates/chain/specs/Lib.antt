@@ -3,6 +3,7 @@ pub mod Rules
 pub mod Set
 pub mod Kinds
 pub mod Window
+pub mod Bytes
 pub mod Output
 pub mod State
 pub mod Calls

@@ -11,8 +11,10 @@ use Rattle.chain.specs.State.{badChain, unusedZero, wellFormed, illFormed, stat
 use Rattle.machine.specs.Byte.{numberOf, passedOf, advanceOf}
 use Rattle.machine.specs.Run.{addressOf, memoryOf, registersOf, missedOf, stepOf, runOf}
 use Rattle.machine.specs.Calls.{startNumber, startOf, fedOf, sliceOf, sliceMemory}
-use Rattle.demands.specs.Grammar.{Section, Bytes}
-use Rattle.demands.specs.Demand3.{Reading, Whole, load, Demand3}
+use Rattle.grammar.specs.Stream.{Section}
+use Rattle.chain.specs.Bytes.{Bytes}
+use Rattle.grammar.specs.Fits.{Reading}
+use Rattle.demands.specs.Demand3.{Whole, load, Demand3}
 use Rattle.demands.specs.Ours.{ours}
 use Rattle.demands.specs.Wrong.{eager}
 use Rattle.demands.proofs.StreamA.{teaching, cells0, idle-teaching, mode-one}

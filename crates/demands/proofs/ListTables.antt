@@ -23,13 +23,13 @@ use Rattle.machine.specs.Run.{Run, run, stepOf, runOf}
 use Rattle.machine.proofs.Started.{opened-feeds}
 use Rattle.machine.specs.Calls.{openedPlace, startNumber, startOf}
 use Rattle.machine.proofs.Runs.{step-number}
-use Rattle.machine.proofs.Taken.{first-on, first-off}
+use Rattle.machine.proofs.Feed.{first-on, first-off}
 use Rattle.lister.specs.declared.stream.Stop.{Stop}
 use Rattle.lister.specs.declared.Listed.{Listed}
 use Rattle.lister.specs.Stops.{stop}
 use Rattle.lister.specs.Listing.{preambleAt, countAt, streamStop, anyShorter, listStop, listedOf, listingOf, listed, Lists}
 use Rattle.lister.proofs.AsMachine.{stream-as-machine}
-use Rattle.demands.specs.Grammar.{Bytes}
+use Rattle.chain.specs.Bytes.{Bytes}
 use Rattle.chain.specs.WellFormed.{Among}
 use Rattle.chain.specs.Table.{Table}
 use Rattle.chain.proofs.BadChain.{m-unknown}

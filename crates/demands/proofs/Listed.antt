@@ -18,11 +18,14 @@ use Rattle.lister.specs.Stops.{stop}
 use Rattle.lister.specs.Windows.{startAt, endAt, nextAt, windowStop, windowsStop, windowsOf}
 use Rattle.lister.specs.Listing.{preambleAt, countAt, headStop, checkStop, streamStop, listStop, listedOf, listingOf, startsOf, endsOf, offsetsOf}
 use Rattle.lister.proofs.Windows.{whole, read-whole}
-use Rattle.demands.specs.Grammar.{Window, Section, streamSent, bytesOf, Fits, AllFit, SectionFits}
+use Rattle.grammar.specs.Stream.{Window, Section, streamSent}
+use Rattle.grammar.specs.Sent.{bytesOf}
+use Rattle.grammar.specs.Fits.{Fits, AllFit, SectionFits}
 use Rattle.demands.specs.Loader.{AfterList, Mode}
-use Rattle.demands.specs.Files.{starts, ends, cells, offsets, gathered, Lists}
+use Rattle.grammar.specs.Tables.{starts, ends, cells, offsets}
+use Rattle.demands.specs.Files.{gathered, Lists}
 use Rattle.demands.specs.Ours.{ours}
-use Rattle.demands.proofs.SectionBytes.{windowBytes, windowsBytes, sectionBytes, leadBytes, stream-bytes, starts-many, ends-many, offsets-many}
+use Rattle.grammar.proofs.SectionBytes.{windowBytes, windowsBytes, sectionBytes, leadBytes, stream-bytes, starts-many, ends-many, offsets-many}
 
 -- ---- one window
 

@@ -17,10 +17,13 @@ use Rattle.lister.specs.Windows.{windowStop, readWindowOf, windowsStop, windows
 use Rattle.lister.specs.Listing.{preambleAt, headStop, checkStop, streamStop, listStop, listedOf, listingOf}
 use Rattle.closing.specs.Closing.{closingBytes}
 use Rattle.closing.specs.Calls.{writtenNumber, closingOf, closingOutput}
-use Rattle.demands.specs.Grammar.{Window, Section, Bytes}
-use Rattle.demands.specs.Demand2.{Fitting, Demand2a}
-use Rattle.demands.specs.Demand3.{Reading, Whole, Demand3}
-use Rattle.demands.specs.Files.{starts, offsets, Demand2b}
+use Rattle.grammar.specs.Stream.{Window, Section}
+use Rattle.chain.specs.Bytes.{Bytes}
+use Rattle.grammar.specs.Fits.{Fitting, Reading}
+use Rattle.demands.specs.Demand2.{Demand2a}
+use Rattle.demands.specs.Demand3.{Whole, Demand3}
+use Rattle.grammar.specs.Tables.{starts, offsets}
+use Rattle.demands.specs.Files.{Demand2b}
 use Rattle.demands.specs.Wrong.{barring, checkWrites, shortClosing, offsetsFromFirst}
 use Rattle.demands.proofs.StreamA.{teaching, cells0, sectionA, idle-teaching, mode-one, fits-A}
 use Rattle.demands.proofs.Shut.{whole-seen}

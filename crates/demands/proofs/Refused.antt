@@ -29,7 +29,7 @@ use Rattle.closing.specs.Calls.{writtenNumber, closingOf, closingOutput}
 use Rattle.hunt.specs.Hunt.{huntedBytes, huntNumber, huntOf, huntOut}
 use Rattle.writer.specs.Stream.{streamOf}
 use Rattle.writer.specs.Write.{writeNumber, writeOf, writeOutput}
-use Rattle.demands.specs.Grammar.{Bytes}
+use Rattle.chain.specs.Bytes.{Bytes}
 use Rattle.demands.specs.ByteTable.{sliceNumber}
 use Rattle.demands.specs.Demand1.{AsLent, Ended, EndedAt, ByteEnded}
 use Rattle.demands.proofs.ByteTables.{slice-on, run-one}

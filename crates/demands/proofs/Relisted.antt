@@ -8,10 +8,13 @@ use lib.ListN.{length, take, drop, take-append-drop}
 use lib.Seq.{length-take-le}
 use Rattle.chain.specs.declared.Chain.{Chain}
 use Rattle.chain.specs.Kinds.{sizeAt, sizeOf}
-use Rattle.demands.specs.Grammar.{Section, streamSent, bytesOf, SectionFits, SectionsFit}
+use Rattle.grammar.specs.Stream.{Section, streamSent}
+use Rattle.grammar.specs.Sent.{bytesOf}
+use Rattle.grammar.specs.Fits.{SectionFits, SectionsFit, Reading}
 use Rattle.demands.specs.Loader.{AfterWrite, AfterList, Mode}
-use Rattle.demands.specs.Demand3.{Reading, offered}
-use Rattle.demands.specs.Files.{Room, starts, ends, cells, Lists, One, rewritten, Again}
+use Rattle.demands.specs.Demand3.{offered}
+use Rattle.demands.specs.Files.{Room, Lists, One, rewritten, Again}
+use Rattle.grammar.specs.Tables.{starts, ends, cells}
 use Rattle.demands.specs.Ours.{ours}
 use Rattle.demands.proofs.Written.{addressOf, wrote, wrote-number, wrote-bytes}
 use Rattle.demands.proofs.Listed.{listed}

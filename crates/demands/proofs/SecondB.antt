@@ -2,7 +2,7 @@
 use Prim.Native.Nat.{ℕ, zero, suc, _/_, _%_, _^_, _≤_, _<_}
 use mathlib.Core.Bool.{_||_}
 use mathlib.Core.Path.{_≡_, refl, ap, sym, subst, _∙_}
-use mathlib.Core.List.{List, [], _∷_, _++_, append-nil}
+use mathlib.Core.List.{List, [], _∷_, append-nil}
 use native.Mathlib.Nat.{div-add-mod', mod-lt}
 use native.Mathlib.Omega.{arith}
 use lib.Dec.{eqb, lit<}
@@ -12,33 +12,26 @@ use Rattle.chain.specs.declared.Chain.{Chain}
 use Rattle.chain.specs.Paper.{preamble, postamble, no-windows, serial-external, serial-internal, two-preambles, done}
 use Rattle.chain.specs.Kinds.{sizeOf}
 use Rattle.chain.proofs.Sizes.{size-most}
+use Rattle.chain.proofs.Bytes.{bytes-append, bytes-front, bytes-rest}
 use Rattle.chain.proofs.ByCases.{by-test}
 use Rattle.writer.specs.Stream.{leadIn, streamOf}
 use Rattle.writer.specs.Write.{writeNumber, writeOf}
 use Rattle.writer.proofs.Accepted.{Accepted, accepted}
 use Rattle.hunt.proofs.Framed.{framed-hunt}
-use Rattle.demands.specs.Grammar.{Window, Section, sectionsSent, streamSent, bytesOf, AllFit, SectionFits, Bytes}
+use Rattle.grammar.specs.Stream.{Window, Section, sectionsSent, streamSent}
+use Rattle.grammar.specs.Sent.{bytesOf}
+use Rattle.grammar.specs.Fits.{AllFit, SectionFits}
+use Rattle.chain.specs.Bytes.{Bytes}
 use Rattle.demands.specs.Loader.{AfterWrite}
 use Rattle.demands.specs.Demand3.{offered}
-use Rattle.demands.specs.Files.{Room, cells, nulled, nullsOff, wanted, given, Lists, Wrote, Demand2b}
+use Rattle.demands.specs.Files.{Room, wanted, given, Lists, Wrote, Demand2b}
+use Rattle.grammar.specs.Tables.{cells, nulled, nullsOff}
 use Rattle.demands.specs.Ours.{ours}
-use Rattle.demands.proofs.SectionBytes.{windowsBytes, section-bytes, serial-one, starts-many}
+use Rattle.grammar.proofs.SectionBytes.{windowsBytes, section-bytes, serial-one, starts-many}
 use Rattle.demands.proofs.Written.{wrote, wrote-bytes, Made, made}
 use Rattle.demands.proofs.Listed.{listed}
 
 -- ---- what is written are bytes
-
-bytes-both : (xs ys : List ℕ) → Bytes xs → Bytes ys → Bytes (xs ++ ys)
-bytes-both [] ys u v = v
-bytes-both (x ∷ xs) ys u v = (u .0, bytes-both xs ys (u .1) v)
-
-bytes-front : (xs ys : List ℕ) → Bytes (xs ++ ys) → Bytes xs
-bytes-front [] ys u = tt
-bytes-front (x ∷ xs) ys u = (u .0, bytes-front xs ys (u .1))
-
-bytes-back : (xs ys : List ℕ) → Bytes (xs ++ ys) → Bytes ys
-bytes-back [] ys u = u
-bytes-back (x ∷ xs) ys u = bytes-back xs ys (u .1)
 
 bytes-at : (xs : List ℕ) → Bytes xs → (i : ℕ) → getD xs i 0 < 2 ^ 8
 bytes-at [] u i = lit< tt
@@ -56,9 +49,9 @@ windows-small size [] h f u = tt
 windows-small size (w ∷ ws) h f u =
     let o = f .0 .order in
     let i = f .0 .inside in
-    bytes-both (0 ∷ (w .start / 256) ∷ (w .start % 256) ∷ (w .end / 256) ∷ (w .end % 256) ∷ w .bytes) (windowsBytes (nulled ws))
+    bytes-append (0 ∷ (w .start / 256) ∷ (w .start % 256) ∷ (w .end / 256) ∷ (w .end % 256) ∷ w .bytes) (windowsBytes (nulled ws))
     (lit< tt, (high-byte (w .start) size h (omega arith), (low-byte (w .start), (high-byte (w .end) size h i, (low-byte (w .end), bytes-front (w .bytes) (cells ws) u)))))
-    (windows-small size ws h (f .1) (bytes-back (w .bytes) (cells ws) u))
+    (windows-small size ws h (f .1) (bytes-rest (w .bytes) (cells ws) u))
 
 pub section-small : (c : Chain) (kind : ℕ) (x : Section) → SectionFits (sizeOf kind) x → nulled (x .windows) ≡ x .windows
     → Bytes (x .control ∷ x .address0 ∷ x .address1 ∷ x .address2 ∷ cells (x .windows)) → Bytes (bytesOf (sectionsSent c 0 x []))
@@ -67,7 +60,7 @@ section-small c kind x f n u =
     subst (λ (ws : List Window). Bytes (windowsBytes ws)) n (windows-small (sizeOf kind) (x .windows) (size-most kind) (f .fit) (u .1 .1 .1 .1)) in
     let few : length (x .windows) ≤ no-windows = f .few in
     subst (λ (l : List ℕ). Bytes l) (sym (sym (append-nil (bytesOf (sectionsSent c 0 x []))) ∙ section-bytes c x []))
-    (u .0, (u .1 .0, (u .1 .1 .0, (u .1 .1 .1 .0, (omega arith, bytes-both (windowsBytes (x .windows)) (postamble ∷ []) w (lit< tt, tt))))))
+    (u .0, (u .1 .0, (u .1 .1 .0, (u .1 .1 .1 .0, (omega arith, bytes-append (windowsBytes (x .windows)) (postamble ∷ []) w (lit< tt, tt))))))
 
 -- ---- what is given of it: in modes 3 and 4 the hunt finds the preamble at 8
 

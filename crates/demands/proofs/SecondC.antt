@@ -1,5 +1,5 @@
 -- The second demand, clause (c): what one device accepts lists as its reading, and is written again as that. Assumes nothing.
-use Prim.Native.Nat.{ℕ, zero, suc, _^_, _≤_, _<_}
+use Prim.Native.Nat.{ℕ, _^_, _≤_, _<_}
 use mathlib.Core.Path.{_≡_, refl, ap, sym, subst, _∙_}
 use mathlib.Core.List.{List, [], _∷_}
 use native.Mathlib.Omega.{arith}
@@ -14,24 +14,24 @@ use Rattle.chain.proofs.BadChain.{m-known}
 use Rattle.chain.proofs.Sound.{state-usable}
 use Rattle.machine.specs.declared.Fed.{Fed}
 use Rattle.machine.specs.Run.{run, runOf}
-use Rattle.machine.specs.Calls.{openedPlace, fedOf, sliceOf}
-use Rattle.demands.specs.Grammar.{Sent, Bytes}
-use Rattle.demands.specs.Loader.{Idle, Mode}
-use Rattle.demands.specs.Demand3.{Reading, load}
+use Rattle.machine.specs.Calls.{openedPlace, fedOf}
+use Rattle.grammar.specs.Sent.{Sent}
+use Rattle.chain.specs.Bytes.{Bytes}
+use Rattle.demands.specs.Loader.{AfterSlice, Idle, Mode}
+use Rattle.grammar.specs.Fits.{Reading}
+use Rattle.demands.specs.Demand3.{load}
 use Rattle.demands.specs.Files.{One, Demand2c}
 use Rattle.demands.specs.Ours.{ours}
-use Rattle.demands.proofs.Along.{sentOf}
-use Rattle.demands.proofs.Opened.{count-sound, opened-sound, start-done}
-use Rattle.demands.proofs.Short.{stream-short}
-use Rattle.demands.proofs.Parse.{parse}
-use Rattle.demands.proofs.Meant.{reading}
-use Rattle.demands.proofs.Used.{Used, used, used-taken}
+use Rattle.grammar.specs.Stores.{walkOf}
+use Rattle.grammar.proofs.StartOpens.{count-sound}
+use Rattle.grammar.proofs.StreamShort.{stream-short}
+use Rattle.grammar.proofs.Parse.{parse}
+use Rattle.grammar.proofs.WalkMeant.{reading}
+use Rattle.grammar.proofs.Accepted.{Used, used, used-taken}
+use Rattle.chain.proofs.Bytes.{bytes-take}
+use Rattle.demands.proofs.LoadRuns.{load-is}
 use Rattle.demands.proofs.Relisted.{relisted}
 
-bytes-take : (n : ℕ) (bs : List ℕ) → Bytes bs → Bytes (take n bs)
-bytes-take zero bs u = tt
-bytes-take (suc n) [] u = tt
-bytes-take (suc n) (b ∷ bs) u = (u .0, bytes-take n bs (u .1))
 
 -- ---- a write from its start
 
@@ -39,19 +39,13 @@ module _ (c : Chain) (m : List ℕ) (kind mode : ℕ) (bs : List ℕ) (i : Idle 
   abbrev begun : Chain
   begun = with·place c (openedPlace mode writing)
 
-  load-is : load ours mode c m bs .fed ≡ fedOf (runOf (run begun m more) bs)
-  unfolding sliceOf
-  load-is =
-      ap (λ (x : Made). sliceOf (x .chain) m bs) (start-done c (length m) mode writing (i .sound) (i .closed-place) o)
-      ∙ rw (opened-sound c (length m) mode writing (i .sound) o)
-
   load-number : load ours mode c m bs .fed .answer .number ≡ runOf (run begun m more) bs .number
   unfolding fedOf
-  load-number = ap (λ (x : Fed). x .answer .number) load-is
+  load-number = ap (λ (x : AfterSlice). x .fed .answer .number) (load-is c m mode (i .sound) o (i .closed-place) bs)
 
   load-taken : load ours mode c m bs .fed .answer .taken ≡ runOf (run begun m more) bs .chain .place .taken
   unfolding fedOf
-  load-taken = ap (λ (x : Fed). x .answer .taken) load-is
+  load-taken = ap (λ (x : AfterSlice). x .fed .answer .taken) (load-is c m mode (i .sound) o (i .closed-place) bs)
 
   devices : (0 < c .count) × (c .count ≤ 8)
   devices = count-sound c (length m) (i .sound)
@@ -70,9 +64,9 @@ module _ (c : Chain) (m : List ℕ) (kind mode : ℕ) (bs : List ℕ) (i : Idle 
     taken-many : load ours mode c m bs .fed .answer .taken ≡ x .many
     taken-many =
         let p = parse c mode writing (take (x .many) bs) (devices .0) (devices .1) front-bytes (x .accepted) in
-        let short : length (sentOf begun (take (x .many) bs)) < 2 ^ 32 =
+        let short : length (walkOf begun (take (x .many) bs)) < 2 ^ 32 =
         subst (λ (l : List Sent). length l < 2 ^ 32) (sym (p .sends)) (stream-short c mode (p .first) (p .others) (devices .1) (p .fits)) in
-        load-taken ∙ used-taken bs begun m x refl short
+        load-taken ∙ used-taken bs begun m refl x short
 
     front-reading : Reading c mode (take (load ours mode c m bs .fed .answer .taken) bs)
     front-reading =

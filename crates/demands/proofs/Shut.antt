@@ -12,9 +12,11 @@ use Rattle.chain.specs.Paper.{preamble, two-preambles, writing, checking, done,
 use Rattle.chain.specs.Rules.{pick}
 use Rattle.chain.specs.Kinds.{baseOf}
 use Rattle.chain.proofs.ByCases.{by-test}
-use Rattle.demands.specs.Grammar.{Sent, Section, bytesOf, sectionsSent, streamSent}
+use Rattle.grammar.specs.Sent.{bytesOf, unlikes}
+use Rattle.grammar.specs.Stream.{Section, sectionsSent, streamSent}
 use Rattle.demands.specs.Loader.{Loader, Idle, Mode}
-use Rattle.demands.specs.Demand2.{unlikes, Fitting, Seen, Demand2a}
+use Rattle.grammar.specs.Fits.{Fitting}
+use Rattle.demands.specs.Demand2.{Seen, Demand2a}
 use Rattle.demands.specs.Wrong.{constant, idle, taking, missing}
 use Rattle.demands.proofs.StreamA.{teaching, cells0, sectionA, idle-teaching, mode-one, fits-A}
 

@@ -9,9 +9,10 @@ use Rattle.chain.specs.declared.Chain.{Chain}
 use Rattle.chain.specs.Kinds.{sizeOf, baseOf, knownOf}
 use Rattle.chain.specs.Set.{closedPlace}
 use Rattle.chain.specs.State.{badChain, unusedZero, wellFormed, illFormed, stateNumber}
-use Rattle.demands.specs.Grammar.{Window, Section, Bytes}
+use Rattle.grammar.specs.Stream.{Window, Section}
+use Rattle.chain.specs.Bytes.{Bytes}
 use Rattle.demands.specs.Loader.{Idle, Mode}
-use Rattle.demands.specs.Demand2.{Fitting}
+use Rattle.grammar.specs.Fits.{Fitting}
 
 abbrev pub teaching : Chain
 teaching = record { count = 1; kinds = replicate 8 0; registers = replicate 8 0; place = closedPlace }

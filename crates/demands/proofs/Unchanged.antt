@@ -10,11 +10,14 @@ use Rattle.chain.specs.declared.Chain.{Chain}
 use Rattle.chain.specs.Paper.{serial-external, serial-internal, two-preambles, done}
 use Rattle.chain.proofs.ByCases.{by-test}
 use Rattle.writer.specs.Stream.{null, leadIn}
-use Rattle.demands.specs.Grammar.{Window, Section, streamSent, bytesOf}
+use Rattle.grammar.specs.Stream.{Window, Section, streamSent}
+use Rattle.grammar.specs.Sent.{bytesOf}
 use Rattle.demands.specs.Loader.{Loader, AfterList}
-use Rattle.demands.specs.Demand3.{Reading, offered}
-use Rattle.demands.specs.Files.{nulled, nullsOff, wanted, Room, One, rewritten, Again}
-use Rattle.demands.proofs.SectionBytes.{serial-one}
+use Rattle.grammar.specs.Fits.{Reading}
+use Rattle.demands.specs.Demand3.{offered}
+use Rattle.grammar.specs.Tables.{nulled, nullsOff}
+use Rattle.demands.specs.Files.{wanted, Room, One, rewritten, Again}
+use Rattle.grammar.proofs.SectionBytes.{serial-one}
 use Rattle.demands.proofs.Relisted.{alone}
 
 -- the lead-in of the mode, as against the preambles that the machine is given

@@ -12,12 +12,15 @@ use Rattle.writer.specs.Stream.{headBytes, streamOf, windowsBytes as windowsWri
 use Rattle.writer.specs.Write.{sumOf, writeNumber, writeOf, writeOutput}
 use Rattle.writer.proofs.Accepted.{Within, accepts}
 use Rattle.writer.proofs.Lengths.{front}
-use Rattle.demands.specs.Grammar.{Window, Section, sectionsSent, bytesOf, AllFit, SectionFits}
+use Rattle.grammar.specs.Stream.{Window, Section, sectionsSent}
+use Rattle.grammar.specs.Sent.{bytesOf}
+use Rattle.grammar.specs.Fits.{AllFit, SectionFits}
 use Rattle.demands.specs.Loader.{AfterWrite, Mode}
 use Rattle.demands.specs.Demand3.{offered}
-use Rattle.demands.specs.Files.{starts, ends, cells, nulled, nullsOff, wanted}
+use Rattle.grammar.specs.Tables.{starts, ends, cells, nulled, nullsOff}
+use Rattle.demands.specs.Files.{wanted}
 use Rattle.demands.specs.Ours.{ours}
-use Rattle.demands.proofs.SectionBytes.{windowsBytes, section-bytes, starts-many, ends-many, nulled-many}
+use Rattle.grammar.proofs.SectionBytes.{windowsBytes, section-bytes, starts-many, ends-many, nulled-many}
 
 -- ---- a section that fits, written
 

@@ -9,12 +9,15 @@ use Rattle.chain.specs.declared.Chain.{Chain}
 use Rattle.chain.specs.Paper.{preamble, two-preambles, done}
 use Rattle.chain.specs.Rules.{pick}
 use Rattle.chain.specs.Kinds.{sizeOf}
-use Rattle.demands.specs.Grammar.{Sent, frame, Window, Section, sectionsSent, streamSent, bytesOf, SectionFits, Bytes}
+use Rattle.grammar.specs.Sent.{Sent, frame, bytesOf}
+use Rattle.grammar.specs.Stream.{Window, Section, sectionsSent, streamSent}
+use Rattle.grammar.specs.Fits.{SectionFits, Lets, Fitting}
+use Rattle.chain.specs.Bytes.{Bytes}
 use Rattle.demands.specs.Loader.{Loader, Idle, Mode}
-use Rattle.demands.specs.Demand2.{Lets, Fitting, Loads, Demand2a}
+use Rattle.demands.specs.Demand2.{Loads, Demand2a}
 use Rattle.demands.specs.Demand3.{offered}
 use Rattle.demands.specs.Files.{Wrote, Demand2b}
-use Rattle.demands.proofs.Opened.{count-sound}
+use Rattle.grammar.proofs.StartOpens.{count-sound}
 use Rattle.demands.proofs.SecondB.{section-small}
 
 -- the section that was written

@@ -17,7 +17,7 @@ use Rattle.hunt.specs.Hunt.{huntOf, huntOut}
 use Rattle.writer.specs.Write.{writeOf, writeOutput}
 use Rattle.lister.specs.declared.Listed.{Listed}
 use Rattle.lister.specs.Listing.{preambleAt, listedOf, listed, Lists}
-use Rattle.demands.specs.Grammar.{Bytes}
+use Rattle.chain.specs.Bytes.{Bytes}
 use Rattle.chain.specs.Table.{Table, chainTable, Running}
 use Rattle.demands.specs.Table.{startTable, closingTable, saveTable, PickUpNumbers, huntTable, writeTable}
 use Rattle.demands.specs.ByteTable.{byteTable, sliceNumber, sliceTable, ByteNumbers}

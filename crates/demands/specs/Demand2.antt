@@ -1,43 +1,16 @@
 -- The second demand, clause (a): a stream that fits loads as its windows, later over earlier, or is checked against them. Assumes nothing.
-use Prim.Native.Nat.{ℕ, suc, _+_, _<_}
-use mathlib.Core.Bool.{false}
+use Prim.Native.Nat.{ℕ, _+_, _<_}
 use mathlib.Core.Path.{_≡_}
 use mathlib.Core.List.{List, [], _∷_, _++_}
 use lib.Dec.{eqb}
 use lib.ListN.{length, getD, take}
 use Rattle.chain.specs.declared.Chain.{Chain}
-use Rattle.chain.specs.Paper.{closed, opened, writing, done, more, B3, B4}
+use Rattle.chain.specs.Paper.{closed, opened, writing, done, more}
 use Rattle.chain.specs.Rules.{pick}
-use Rattle.demands.specs.Grammar.{Target, framing, register, cell, Sent, Section, memory, registers, lastTo, bytesOf, streamSent, SectionsFit, Bytes}
+use Rattle.grammar.specs.Sent.{Sent, memory, registers, lastTo, bytesOf, unlikes}
+use Rattle.grammar.specs.Stream.{Section, streamSent}
+use Rattle.grammar.specs.Fits.{Fitting}
 use Rattle.demands.specs.Loader.{Loader, AfterSlice, Idle, Mode}
-
--- a data byte unlike its cell counts one; all other bytes count nothing
-abbrev pub unlike : List ℕ → Target → ℕ → ℕ
-unlike m framing b = 0
-unlike m (register d) b = 0
-unlike m (cell i) b = pick (eqb (getD m i 0) b) 0 1
-
--- how many data bytes are unlike their cells
-abbrev pub unlikes : List ℕ → List Sent → ℕ
-unlikes m [] = 0
-unlikes m (x ∷ xs) = unlike m (x .to) (x .byte) + unlikes m xs
-
--- a device lets a run in: its stored B4 is clear; in a check its stored B3, and B3 of the control byte sent to it, too
-pub record Lets (check stored control : ℕ) : Type 0 where
-  pub b4 : B4 stored ≡ false
-  pub b3 : eqb check writing ≡ false → B3 stored ≡ false
-  pub sent-b3 : eqb check writing ≡ false → B3 control ≡ false
-
--- each device met, from d on, lets the run in
-abbrev pub AllLet : ℕ → List ℕ → ℕ → Section → List Section → Type 0
-AllLet check g d s [] = Lets check (getD g d 0) (s .control)
-AllLet check g d s (t ∷ ts) = Lets check (getD g d 0) (s .control) × AllLet check g (suc d) t ts
-
--- a stream that fits the chain and what is stored in it
-pub record Fitting (c : Chain) (check mode : ℕ) (s : Section) (ss : List Section) : Type 0 where
-  pub fits : SectionsFit c 0 s ss
-  pub lets : AllLet check (c .registers) 0 s ss
-  pub bytes : Bytes (bytesOf (streamSent c mode s ss))
 
 -- what is seen once the front part xs of a stream was fed: a write stored each byte where it was meant for; a check stored nothing,
 -- loaded no register and counted the data bytes unlike their cells

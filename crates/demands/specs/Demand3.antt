@@ -1,31 +1,16 @@
 -- The third demand, as a predicate over a loader: a stopped run, its closing bytes, and the same stream started afresh. Assumes nothing.
 use Prim.Native.Nat.{ℕ, _+_, _≤_, _<_}
-use mathlib.Core.Bool.{false}
 use mathlib.Core.Path.{_≡_}
-use mathlib.Core.List.{List, [], _∷_, _++_}
+use mathlib.Core.List.{List, _++_}
 use lib.ListN.{length, getD, take}
 use Rattle.chain.specs.declared.Chain.{Chain}
-use Rattle.chain.specs.Paper.{writing, done, more, B4}
+use Rattle.chain.specs.Paper.{writing, done, more}
 use Rattle.chain.specs.Kinds.{sizeAt}
-use Rattle.demands.specs.Grammar.{Sent, Section, memory, registers, lastTo, bytesOf, streamSent, SectionsFit, Bytes}
+use Rattle.grammar.specs.Sent.{Sent, memory, registers, lastTo}
+use Rattle.grammar.specs.Fits.{Reading, meant, Clear}
+use Rattle.chain.specs.Bytes.{Bytes}
 use Rattle.demands.specs.Loader.{Loader, AfterSlice, AfterWrite, Idle, Mode}
 use Rattle.demands.specs.Demand2.{slices, joined}
-
--- a reading of a stream: sections that fit the chain, and whose bytes it is
-pub record Reading (c : Chain) (mode : ℕ) (bs : List ℕ) : Type 0 where
-  pub first : Section
-  pub others : List Section
-  pub fits : SectionsFit c 0 first others
-  pub bytes : bytesOf (streamSent c mode first others) ≡ bs
-
--- each byte of the stream, with what it is meant for
-abbrev pub meant : {c : Chain} {mode : ℕ} {bs : List ℕ} → Reading c mode bs → List Sent
-meant {c} {mode} x = streamSent c mode (x .first) (x .others)
-
--- bit B4 is clear in every control byte
-abbrev pub Clear : Section → List Section → Type 0
-Clear s [] = B4 (s .control) ≡ false
-Clear s (t ∷ ts) = (B4 (s .control) ≡ false) × Clear t ts
 
 -- the stream bs started afresh as a write, and fed as far as xs
 abbrev pub load : Loader → ℕ → Chain → List ℕ → List ℕ → AfterSlice

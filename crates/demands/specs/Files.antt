@@ -11,36 +11,13 @@ use Rattle.chain.specs.Paper.{done, serial-external, serial-internal, two-pream
 use Rattle.chain.specs.Rules.{pick}
 use Rattle.chain.specs.Kinds.{sizeOf}
 use Rattle.writer.specs.Stream.{leadIn}
-use Rattle.demands.specs.Grammar.{Sent, Window, Section, bytesOf, sectionsSent, streamSent, SectionFits, Bytes}
+use Rattle.grammar.specs.Sent.{bytesOf}
+use Rattle.grammar.specs.Stream.{Window, Section, sectionsSent, streamSent}
+use Rattle.grammar.specs.Tables.{starts, ends, offsets, cells, nulled, nullsOff}
+use Rattle.grammar.specs.Fits.{SectionFits, Reading}
+use Rattle.chain.specs.Bytes.{Bytes}
 use Rattle.demands.specs.Loader.{Loader, AfterWrite, AfterList, Idle, Mode}
-use Rattle.demands.specs.Demand3.{Reading, offered, load}
-
--- the windows' starts, ends and data
-abbrev pub starts : List Window → List ℕ
-starts [] = []
-starts (w ∷ ws) = w .start ∷ starts ws
-
-abbrev pub ends : List Window → List ℕ
-ends [] = []
-ends (w ∷ ws) = w .end ∷ ends ws
-
-abbrev pub cells : List Window → List ℕ
-cells [] = []
-cells (w ∷ ws) = w .bytes ++ cells ws
-
--- where the windows' data stand, o being the place of the first one's null byte
-abbrev pub offsets : ℕ → List Window → List ℕ
-offsets o [] = []
-offsets o (w ∷ ws) = (o + 5) ∷ offsets (o + 5 + length (w .bytes)) ws
-
--- the same windows with their null bytes 00
-abbrev pub nulled : List Window → List Window
-nulled [] = []
-nulled (w ∷ ws) = record { null = 0; start = w .start; end = w .end; bytes = w .bytes } ∷ nulled ws
-
-abbrev pub nullsOff : Section → Section
-nullsOff s =
-    record { control = s .control; address0 = s .address0; address1 = s .address1; address2 = s .address2; windows = nulled (s .windows) }
+use Rattle.demands.specs.Demand3.{offered, load}
 
 -- the position of the preamble that precedes the control byte, from which offsets count: mode 6 has one before it
 abbrev pub preambleAt : ℕ → ℕ

@@ -3,7 +3,6 @@ pub mod Table
 pub mod ByteTable
 pub mod ListTable
 pub mod Demand1
-pub mod Grammar
 pub mod Loader
 pub mod Demand2
 pub mod Demand3

@@ -11,7 +11,7 @@ use Rattle.chain.specs.State.{stateNumber}
 use Rattle.machine.specs.declared.Fed.{Fed}
 use Rattle.hunt.specs.declared.Hunted.{Hunted}
 use Rattle.lister.specs.declared.Listed.{Listed}
-use Rattle.demands.specs.Grammar.{Bytes}
+use Rattle.chain.specs.Bytes.{Bytes}
 
 -- a slice's answer and the memory it leaves
 pub record AfterSlice : Type 0 where

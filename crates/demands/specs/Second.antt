@@ -6,9 +6,11 @@ use mathlib.Core.List.{List, [], _∷_}
 use lib.ListN.{getD}
 use Rattle.chain.specs.declared.Chain.{Chain}
 use Rattle.chain.specs.Paper.{done}
-use Rattle.demands.specs.Grammar.{streamSent, Bytes}
+use Rattle.grammar.specs.Stream.{streamSent}
+use Rattle.chain.specs.Bytes.{Bytes}
 use Rattle.demands.specs.Loader.{Loader, Idle, Mode}
-use Rattle.demands.specs.Demand2.{Lets, Loads, Demand2a}
+use Rattle.grammar.specs.Fits.{Lets}
+use Rattle.demands.specs.Demand2.{Loads, Demand2a}
 use Rattle.demands.specs.Files.{Demand2b, Demand2c}
 
 pub record Demand2 (l : Loader) : Type 0 where

@@ -9,7 +9,7 @@ use Rattle.chain.specs.declared.Chain.{Chain}
 use Rattle.chain.specs.Paper.{most-devices, done, more}
 use Rattle.chain.specs.Rules.{pick}
 use Rattle.chain.specs.State.{feedNumber}
-use Rattle.chain.proofs.Bytes.{Bytes}
+use Rattle.chain.specs.Bytes.{Bytes}
 use Rattle.chain.proofs.ByCases.{by-test}
 use Rattle.chain.proofs.Sound.{feed-never-more}
 use Rattle.machine.specs.declared.Fed.{Fed}

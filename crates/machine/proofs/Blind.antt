@@ -79,7 +79,7 @@ place-still : (p : Place) (b j k l : ℕ)
 place-still p b j k l = advance-still (counted p 1 k) b ((j + l) % 2 ^ 32)
 
 module _ (c : Chain) (m n : List ℕ) (b j : ℕ) where
-  went-still : wentOn (still c j) n b ≡ still (wentOn c m b) ((j + missedOf (still c j) n b) % 2 ^ 32)
+  pub went-still : wentOn (still c j) n b ≡ still (wentOn c m b) ((j + missedOf (still c j) n b) % 2 ^ 32)
   went-still = rw (registers-still c b j, place-still (c .place) b j (missedOf c m b) (missedOf (still c j) n b))
 
   step-alike : Alike (stepOf c m b) (stepOf (still c j) n b)

@@ -1,14 +1,17 @@
 -- A run over a slice: in two parts, past its end, and from byte i on. Assumes nothing.
 use Prim.Native.Nat.{ℕ, _+_, _-_, _<_, _≤_}
+use mathlib.Core.Bool.{Bool, true, false}
 use mathlib.Core.Path.{_≡_, refl, ap, sym, _∙_}
 use mathlib.Core.List.{List, [], _∷_, _++_}
 use native.Mathlib.Numerals.{add-one}
 use native.Mathlib.Omega.{arith}
-use borrow.Author.Tests.{ne-eqb}
+use borrow.Author.Tests.{ne-eqb, eqb-false}
+use lib.Dec.{eqb}
 use lib.ListN.{length, getD, take, drop, drop-of-length-le, take-append-drop, length-drop}
 use lib.Seq.{take-all, drop-cons, drop-drop}
 use Rattle.chain.specs.declared.Chain.{Chain}
 use Rattle.chain.specs.Paper.{more}
+use Rattle.chain.specs.Rules.{pick}
 use Rattle.machine.specs.Run.{Run, run, stepOf, onByte, runOf}
 
 -- feeding a and b is feeding a and then, where the run is open, b
@@ -22,6 +25,15 @@ pub run-over : (bs : List ℕ) (r : Run) → (r .number ≡ more → ⊥) → ru
 unfolding runOf
 run-over [] r h = refl
 run-over (b ∷ bs) r h = rw (ne-eqb (r .number) more h) (run-over bs r h)
+
+-- its first byte: looked at where the run is open, not looked at where it is over
+module _ (r : Run) (b : ℕ) (bs : List ℕ) where
+  pub first-on : eqb (r .number) more ≡ true → runOf r (b ∷ bs) ≡ runOf (stepOf (r .chain) (r .memory) b) bs
+  unfolding runOf
+  first-on e = ap (λ (q : Bool). runOf (pick q (stepOf (r .chain) (r .memory) b) r) bs) e
+
+  pub first-off : eqb (r .number) more ≡ false → runOf r (b ∷ bs) ≡ r
+  first-off e = run-over (b ∷ bs) r (eqb-false (r .number) more e)
 
 module _ (c : Chain) (m s : List ℕ) (i : ℕ) where
   pub run-at : i < length s → runOf (run c m more) (drop i s) ≡ runOf (stepOf c m (getD s i 0)) (drop (i + 1) s)

@@ -11,7 +11,7 @@ use Rattle.chain.specs.declared.Place.{Place}
 use Rattle.chain.specs.Paper.{writing, most-devices, done, more}
 use Rattle.chain.specs.Set.{with·place, closedPlace}
 use Rattle.chain.specs.State.{wellFormed, stateNumber, feedNumber}
-use Rattle.chain.proofs.Bytes.{Bytes}
+use Rattle.chain.specs.Bytes.{Bytes}
 use Rattle.chain.proofs.ByCases.{by-test}
 use Rattle.chain.proofs.WellFormed.{formed-of, of-formed}
 use Rattle.chain.proofs.Sound.{Sound, feed-sound, sound-feed, feed-closed}

@@ -57,6 +57,10 @@ run-still =
 pub unwritten-run : (bs : List ℕ) (r : Run) → writes (r .chain) ≡ false → runOf r bs .memory ≡ r .memory
 unwritten-run bs r = run-still bs r .cells
 
+-- a run that loads no register changes none
+pub unloaded-run : (bs : List ℕ) (r : Run) → loads (r .chain) ≡ false → runOf r bs .chain .registers ≡ r .chain .registers
+unloaded-run bs r = run-still bs r .registers
+
 -- a check changes no cell
 pub check-cells : (bs : List ℕ) (r : Run) → r .chain .place .check ≡ checking → runOf r bs .memory ≡ r .memory
 check-cells bs r h = run-still bs r .cells (rw h refl)

@@ -6,8 +6,6 @@ pub mod Only
 pub mod Frame
 pub mod Runs
 pub mod Kept
-pub mod Taken
-pub mod Stores
 pub mod Blind
 pub mod Stays
 pub mod Steps

@@ -9,7 +9,7 @@ use lib.ListN.{length, set, length-set}
 use Rattle.chain.specs.declared.Chain.{Chain}
 use Rattle.chain.specs.Paper.{at·control, at·data, more}
 use Rattle.chain.specs.Rules.{pick}
-use Rattle.chain.proofs.Bytes.{Bytes}
+use Rattle.chain.specs.Bytes.{Bytes}
 use Rattle.chain.proofs.ByCases.{by-test, either-way}
 use Rattle.machine.specs.Byte.{awaits, numberOf}
 use Rattle.machine.specs.Run.{addressOf, memoryOf, writes, loads, registersOf, ended, Run, run, wentOn, stepOf, onByte, runOf}

@@ -1,0 +1,5 @@
+pub mod Sent
+pub mod Stream
+pub mod Fits
+pub mod Stores
+pub mod Tables
