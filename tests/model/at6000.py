@@ -1,9 +1,10 @@
-"""A model of document 01 in Python, written from the paper and not from the crates' code or definitions.
+"""The model of document 01 in Python, written from the paper and not from the crates' code or definitions.
 
 It is short and slow on purpose: each function follows the paper's sentences in their order, which are quoted beside it. cases.py works
-out with it what the program `cases` must print. Each of the eleven calls answers its number first. Taken from the interface, not from the
-paper: the names of the state's fields, `running` and `check` as bytes of which any but 0 and 1 is not well formed in a lent state, and that
-start takes any check but 0 for a check. Where the paper leaves a choice, the readings in docs/DECISIONS.md are followed.
+out with it what the program `cases` must print, listing.py what the program `listing` must. Each of the eleven calls answers its number
+first. Taken from the interface, not from the paper: the names of the state's fields, `running` and `check` as bytes of which any but 0 and
+1 is not well formed in a lent state, and that start takes any check but 0 for a check. Where the paper leaves a choice, the readings in
+docs/DECISIONS.md are followed.
 """
 
 from copy import deepcopy
@@ -444,12 +445,18 @@ def hunt(s, out):
 # ---- Writer and lister
 
 
+def device_number(kind, mode):
+    """ "kind (1), mode": what writer, lister and listing program test first. 1: "unknown kind", 2: "a mode not 1 to 6" """
+    if kind not in SIZES:
+        return 1
+    return 0 if 1 <= mode <= 6 else 2
+
+
 def write(kind, mode, control, address, starts, ends, data, out):
     """ "Writer: kind (1), mode, 13, then window by window 11, 12, then 14, 15." """
-    if kind not in SIZES:
-        return 1, 0, out
-    if not 1 <= mode <= 6:
-        return 2, 0, out
+    number = device_number(kind, mode)
+    if number != 0:
+        return number, 0, out
     # 13: "start and end tables differ in length or exceed 255"
     if len(starts) != len(ends) or len(starts) > 255:
         return 13, 0, out
@@ -479,10 +486,9 @@ def put_table(table, values):
 def list_windows(kind, mode, s, starts, ends, offsets):
     """ "Lister: kind (1), mode, the stream's own number, then 15." Answers number, windows, control byte, external address, bytes taken and
     the three tables. """
-    if kind not in SIZES:
-        return 1, 0, 0, [0, 0, 0], 0, starts, ends, offsets
-    if not 1 <= mode <= 6:
-        return 2, 0, 0, [0, 0, 0], 0, starts, ends, offsets
+    number = device_number(kind, mode)
+    if number != 0:
+        return number, 0, 0, [0, 0, 0], 0, starts, ends, offsets
     # "for one freshly reset device": its machine is fed, and what it takes is noted
     mem = bytearray(SIZES[kind])
     _, c = start(Chain(1, [kind] + [0] * 7), mem, mode, 0)
@@ -506,3 +512,29 @@ def list_windows(kind, mode, s, starts, ends, offsets):
         return number, 0, 0, [0, 0, 0], taken, starts, ends, offsets
     tables = [put_table(t, [w[i] for w in windows]) for i, t in enumerate((starts, ends, offsets))]
     return 0, len(windows), control, address, taken, *tables
+
+
+# ---- The listing program
+
+MOST_INPUT = 65536
+
+
+def listing(data):
+    """ "Standard input: mode byte, kind byte, stream." Answers the lines that it prints. """
+    # "Fewer than two bytes: "A 1 0". Over 65,536 bytes in all: the one line "L"."
+    if len(data) < 2:
+        return ["A 1 0"]
+    if len(data) > MOST_INPUT:
+        return ["L"]
+    mode, kind, s = data[0], data[1], data[2:]
+    # "Otherwise kind and mode are tested, modes 3 and 4 hunt, and the lister follows."; "taken 0 where no byte reached the machine"
+    number = device_number(kind, mode)
+    if number == 0 and mode in (3, 4):
+        number, length, hunted = hunt(s, bytes(len(s)))
+        s = hunted[:length]
+    if number != 0:
+        return [f"A {number} 0"]
+    room = [0] * 255
+    number, windows, _, _, taken, starts, ends, _ = list_windows(kind, mode, s, room, room, room)
+    # "If accepted, it prints a line "W n start end" for each window from 1, decimal. The last line is "A number taken"": not accepted, 0 windows
+    return [f"W {i + 1} {starts[i]} {ends[i]}" for i in range(windows)] + [f"A {number} {taken}"]

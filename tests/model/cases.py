@@ -29,15 +29,11 @@ from pathlib import Path
 
 sys.dont_write_bytecode = True
 import at6000
-from at6000 import B2, B3, B4, POSTAMBLE, PREAMBLE, SIZES, Chain, Place, saved_of
+from at6000 import B2, B3, B4, PREAMBLE, SIZES, Chain, Place, saved_of
+from streams import EMPTY, A, at_bit, bytes_of, section, stream, window
 
 CELLS = 65576  # the program's memory: enough for a chain that is refused for its total alone
 LENT = 0xEE
-
-
-def bytes_of(s):
-    """Bytes, or their hex digits."""
-    return bytes.fromhex(s) if isinstance(s, str) else bytes(s)
 
 
 def eight(values):
@@ -199,28 +195,6 @@ class Script:
         table = [" " + "".join(f"{n:04x}" for n in t) for t in (starts, ends)] + [f" {n:08x}" for n in offsets]
         text = f" {got:02x} {windows:02x} {control:02x} {bytes(address).hex()} {taken:08x}{''.join(table)}"
         self.line("l", text, s, a=kind, b=mode, out=k, starts=i, ends=j)
-
-
-# ---- Streams
-
-
-def window(start, end, data, null=0x00):
-    data = bytes_of(data)
-    assert len(data) == end - start + 1
-    return bytes([null, start // 256, start % 256, end // 256, end % 256]) + data
-
-
-def section(windows, control=0x00, address="000000"):
-    return bytes([control]) + bytes_of(address) + bytes([0xFF - len(windows)]) + b"".join(windows)
-
-
-def stream(*sections, lead="B2"):
-    """ "At 13: 4D accepts; B2 begins the next device at 2" """
-    return bytes_of(lead) + bytes([PREAMBLE]).join(sections) + bytes([POSTAMBLE])
-
-
-A = bytes.fromhex("B2 00 00 00 00 FE 00 00 09 00 0B 11 22 33 4D")
-EMPTY = bytes.fromhex("B2 00 00 00 00 FF 4D")
 
 
 def load(s, control=0x00, *more):
@@ -1130,23 +1104,19 @@ def cases_picked_up(s):
 def cases_hunt(s):
     s.say("hunt, 0: 'the first bit position p, 0 to 64, where eight bits make B2. It writes the whole bytes that start at p .. and drops a last part byte'")
 
-    def shifted(p, s):
-        return (int.from_bytes(s, "little") << p).to_bytes(len(s) + (p + 7) // 8, "little")
-
     for p in (0, 1, 8, 64):
-        sent = shifted(p, A)
+        sent = at_bit(p, A)
         assert len(sent) == 15 + (p + 7) // 8
         s.hunt(0, sent, A, room=24)
     s.say("hunt, 0: every other position, zeros before the preamble; then every position, ones before it")
     for p in range(65):
         if p not in (0, 1, 8, 64):
-            s.hunt(0, shifted(p, A[:4]), A[:4], room=8)
+            s.hunt(0, at_bit(p, A[:4]), A[:4], room=8)
     for p in range(1, 65):
-        ones = (int.from_bytes(A[:3], "little") << p) | (1 << p) - 1
-        s.hunt(0, ones.to_bytes(3 + (p + 7) // 8, "little"), A[:3], room=8)
+        s.hunt(0, at_bit(p, A[:3], 1), A[:3], room=8)
     s.say("hunt, 5: 'without a position': p = 65, 66, 72; zeros; ones; nothing; B2 cut short")
     for p in (65, 66, 71, 72):
-        s.hunt(5, shifted(p, A))
+        s.hunt(5, at_bit(p, A))
     for sent in ("00" * 20, "FF" * 20, "", "B1", "59", "64", "00 00 00 00 00 00 00 00"):
         s.hunt(5, sent)
     s.hunt(5, "00" * 8 + "32")
@@ -1160,7 +1130,7 @@ def cases_hunt(s):
     s.say("hunt, 15: 'output .. shorter than needed'; 'Hunt: 5, 15'")
     s.hunt(15, A, room=14)
     s.hunt(15, A, room=0)
-    s.hunt(15, shifted(3, A), room=14)
+    s.hunt(15, at_bit(3, A), room=14)
     s.hunt(5, "00 00", room=0)
     s.hunt(0, A, A, room=15)
     s.say("'The machine is fed these': a stream in mode 3, four bits late, hunted and fed; mode 4 likewise")
@@ -1168,12 +1138,12 @@ def cases_hunt(s):
     s.fill(0x40)
     for mode in (3, 4):
         written = s.write(0, 0, mode, 0x00, "000000", [9], [11], "112233")
-        hunted = s.hunt(0, shifted(4, written))
+        hunted = s.hunt(0, at_bit(4, written))
         s.start(0, mode)
         s.feed(0, hunted, 15, 0)
     s.say("a long stream, at a bit offset: kind 2 whole")
     whole = stream(section([window(0, 2664, [i % 253 for i in range(2665)])]))
-    s.hunt(0, shifted(13, whole), whole, room=2700)
+    s.hunt(0, at_bit(13, whole), whole, room=2700)
 
 
 def cases_write(s):
