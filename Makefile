@@ -1,4 +1,4 @@
-# make demo   lists a sample stream, then runs a controller's main loop in C: stop, close, start afresh; save, power off, pick up
+# make demo   lists a sample stream, then runs a controller's main loop in C: stop, close, start afresh; save, drop, pick up
 # make test   header, C example, comparison with the model, stack, listing program on its inputs; then every proof, must-fail edit and program, from nothing: the last line is rt's own
 # make lib    the archive for C: target/staticlib/libat6000.a
 # make bench  the archive against safe Rust and memcpy (docs/SPEED.md)

@@ -30,6 +30,7 @@ extern "C" {
     fn raced_start(c: *mut Chain, mem: *const u8, n: usize, mode: u8, check: u8) -> u8;
     fn raced_slice(c: *mut Chain, mem: *mut u8, n: usize, s: *const u8, s_n: usize, a: *mut Answered);
     fn raced_byte(c: *mut Chain, mem: *mut u8, n: usize, b: u8, a: *mut Answered);
+    fn raced_drop(c: *mut Chain, mem: *const u8, n: usize) -> u8;
     fn raced_pick_up(c: *mut Chain, mem: *const u8, n: usize, saved: *const u8, saved_n: usize) -> u8;
     fn raced_closing(c: *const Chain, mem: *const u8, n: usize, out: *mut u8, out_n: usize) -> usize;
     fn raced_save(c: *const Chain, mem: *const u8, n: usize, out: *mut u8, out_n: usize) -> usize;
@@ -67,6 +68,10 @@ impl Chain {
         let mut a = Answered { number: 0, taken: 0, mismatches: 0 };
         unsafe { raced_byte(self, memory.as_mut_ptr(), memory.len(), b, &mut a) };
         Answer { number: a.number, taken: a.taken, mismatches: a.mismatches }
+    }
+
+    pub fn drop(&mut self, memory: &[u8]) -> u8 {
+        unsafe { raced_drop(self, memory.as_ptr(), memory.len()) }
     }
 
     pub fn pick_up(&mut self, memory: &[u8], saved: &[u8]) -> u8 {

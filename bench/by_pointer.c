@@ -16,6 +16,12 @@ void raced_byte(at6000_chain *c, uint8_t *mem, size_t n, uint8_t b, at6000_answe
     *a = f.answer;
 }
 
+uint8_t raced_drop(at6000_chain *c, const uint8_t *mem, size_t n) {
+    at6000_made m = at6000_drop(*c, mem, n);
+    *c = m.chain;
+    return m.number;
+}
+
 uint8_t raced_pick_up(at6000_chain *c, const uint8_t *mem, size_t n, const uint8_t *saved, size_t saved_n) {
     return at6000_pick_up_in(c, mem, n, saved, saved_n);
 }

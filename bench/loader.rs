@@ -384,6 +384,16 @@ impl Chain {
     }
 
     #[inline(never)]
+    pub fn drop(&mut self, memory: &[u8]) -> u8 {
+        if let Some(n) = self.refusal(memory.len()) {
+            return n;
+        }
+        match self.run.take() {
+            Some(_) => 0,
+            None => 4,
+        }
+    }
+
     pub fn pick_up(&mut self, memory: &[u8], saved: &[u8]) -> u8 {
         if let Some(n) = self.refusal(memory.len()) {
             return n;

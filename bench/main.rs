@@ -216,7 +216,7 @@ impl Bench {
         );
     }
 
-    /// A run that awaits the first data byte of a whole device: its closing bytes, and the place saved and picked up.
+    /// A run that awaits the first data byte of a whole device: its closing bytes, and the place saved, dropped and picked up.
     fn stopped(&self) {
         let memory = noise(BIG, 9);
         let m = &memory[..];
@@ -248,6 +248,13 @@ impl Bench {
             vec![
                 runner("archive", || assert_eq!(black_box(c1).save(m, black_box(&mut s1)), 27)),
                 runner("Rust", || assert_eq!(black_box(c2).save(m, black_box(&mut s2)), (0, 27))),
+            ],
+        );
+        self.row(
+            "drop",
+            vec![
+                runner("archive", || assert_eq!(black_box(c1).drop(m), 0)),
+                runner("Rust", || assert_eq!(black_box(c2).drop(m), 0)),
             ],
         );
         let (f1, f2) = (archive::Chain::new(&[10]), loader::Chain::new(&[10]));

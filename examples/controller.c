@@ -1,6 +1,6 @@
 /* A controller's main loop, as a lab runs it: a measure stream goes into a chain of two arrays, and somebody pauses the run
- * inside a window. First the run is closed and the stream started afresh; then, once more, it is saved, the power goes, and the
- * rest of the stream is sent after a pick-up. Both leave what an unbroken load leaves. */
+ * inside a window. First the run is closed and the stream started afresh; then, once more, its place is saved and the run
+ * dropped before the power goes, and the rest of the stream is sent after a pick-up. Both leave what an unbroken load leaves. */
 #include "at6000.h"
 
 #include <stdio.h>
@@ -81,15 +81,17 @@ int main(void)
     if (memcmp(unbroken, mem, MEMORY))
         return fails("a fresh start leaves what an unbroken load leaves");
 
-    puts("\nstopped, saved, power off, picked up");
+    puts("\nstopped, saved, dropped, picked up");
     park(mem);
     c = at6000_new(2, kinds, mem, MEMORY).chain;
     at6000_start_in(&c, mem, MEMORY, MODE, WRITE);
     at6000_slice_in(&c, mem, MEMORY, measure, PAUSE);
     w = at6000_save(c, mem, MEMORY, saved, sizeof saved);
     printf("save: number %d, %u bytes\n", w.number, (unsigned)w.length);
-    memset(&c, 0, sizeof c);
-    c = at6000_new(2, kinds, mem, MEMORY).chain;
+    at6000_made m = at6000_drop(c, mem, MEMORY);
+    printf("drop: number %d, %s, registers %s\n", m.number, m.chain.place.running ? "a run open" : "no run open",
+           memcmp(c.registers, m.chain.registers, sizeof c.registers) ? "CHANGED" : "as they were");
+    c = m.chain;
     uint8_t n = at6000_pick_up_in(&c, mem, MEMORY, saved, w.length);
     printf("pick-up: number %d, %u bytes taken so far\n", n, (unsigned)c.place.taken);
     a = at6000_slice_in(&c, mem, MEMORY, measure + c.place.taken, sizeof measure - c.place.taken);

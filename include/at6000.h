@@ -25,7 +25,7 @@ enum at6000_number {
     AT6000_BAD_CHAIN = 1,       /* count not 1 to 8, unknown kind, total over 65536, or lent memory of another length */
     AT6000_BAD_MODE = 2,        /* mode not 1 to 6 */
     AT6000_RUN_OPEN = 3,        /* start or pick-up while a run is open */
-    AT6000_NO_RUN = 4,          /* byte, slice, closing or save with no run open */
+    AT6000_NO_RUN = 4,          /* byte, slice, closing, save or drop with no run open */
     AT6000_NO_PREAMBLE = 5,     /* a preamble is awaited and the byte is not B2; hunt without a position */
     AT6000_BARRED = 6,          /* B2 that would begin a device whose stored bit 4 is set */
     AT6000_NO_CHECK = 7,        /* check, and the device's stored bit 3 is set, or the control byte sets it */
@@ -106,6 +106,12 @@ at6000_written at6000_closing(at6000_chain c, const uint8_t *mem, size_t mem_len
 
 /* Writes the open run down in AT6000_SAVED_LENGTH bytes; the run stays open. Gives 1, 17, 4, 15, else 0; outputs as for closing. */
 at6000_written at6000_save(at6000_chain c, const uint8_t *mem, size_t mem_len, uint8_t *out, size_t out_len);
+
+/* Drops the open run: none is open afterwards, and cells and registers stay as they are. For a pause: a controller saves its
+ * place, drops the run, powers off, and picks the place up later; while a run is open, pick-up and start give 3. The array is
+ * sent nothing: where it is to take another stream next, feed the closing bytes instead. Gives 1, 17, 4, else 0; refused, the
+ * state is as lent. */
+at6000_made at6000_drop(at6000_chain c, const uint8_t *mem, size_t mem_len);
 
 /* The state that was saved, registers included, into the same chain with no run open. Gives 1, 17, 3, then 17 for the saved
  * place, else 0; refused, the state is as lent. */

@@ -11,7 +11,7 @@
 #include <string.h>
 
 enum { FRAME = 1 << 20, ARENA = 1 << 21, GUARD = 32, PIECES = 16 };
-enum { NEW, RESET, START, BYTE, SLICE, CLOSING, SAVE, PICK_UP, HUNT, WRITE, LIST };
+enum { NEW, RESET, START, BYTE, SLICE, CLOSING, SAVE, PICK_UP, HUNT, WRITE, LIST, DROP };
 enum { MADE = 1, FED, WRITTEN, LISTED, MEMORY, OUTPUT, STARTS, ENDS, OFFSETS };
 enum { GUARD_TOUCHED = 1, INPUT_CHANGED = 2 };
 
@@ -341,9 +341,19 @@ static void make_list(void) {
     put_bytes(OFFSETS, offsets, 4 * offsets_len);
 }
 
+/* The memory is lent to be read only, and goes into the reply all the same. */
+static void make_drop(void) {
+    at6000_chain c = take_chain();
+    size_t mem_len = take32();
+    const uint8_t *mem = lend_const(take(mem_len), mem_len, 1);
+    at6000_made made = at6000_drop(c, mem, mem_len);
+    put_made(&made.chain, made.number);
+    put_bytes(MEMORY, mem, mem_len);
+}
+
 static void (*const calls[])(void) = {
     make_new, make_reset, make_start, make_byte, make_slice, make_closing,
-    make_save, make_pick_up, make_hunt, make_write, make_list
+    make_save, make_pick_up, make_hunt, make_write, make_list, make_drop
 };
 
 int main(void) {
@@ -363,7 +373,7 @@ int main(void) {
         skew++;
         put8(0);
         call = take8();
-        if (call > LIST) stop("an unknown call");
+        if (call > DROP) stop("an unknown call");
         calls[call]();
         if (request_at != request_length) stop("a request is too long");
         reply[0] = faults();

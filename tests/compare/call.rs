@@ -1,10 +1,10 @@
 //! A call with all that it is lent, and what the model says of it.
 
-use crate::model::chain::{new, reset, Chain, Made, Place};
+use crate::model::chain::{new, reset, Chain, Made};
 use crate::model::closing::closing;
 use crate::model::hunt::hunt;
 use crate::model::lister::{list, Listed, Tables};
-use crate::model::machine::{byte, slice, start, Fed};
+use crate::model::machine::{byte, drop, slice, start, Fed};
 use crate::model::numbers::DONE;
 use crate::model::output::Written;
 use crate::model::saved::{pick_up, save};
@@ -41,6 +41,7 @@ pub enum Call {
     Hunt { stream: Vec<u8>, room: Room },
     Write { order: Order, room: Room },
     List { kind: u8, mode: u8, stream: Vec<u8>, lengths: [usize; 3], fill: u8 },
+    Drop { chain: Chain, memory: Vec<u8> },
 }
 
 /// A part of a reply, in the order in which archive.c puts them.
@@ -129,10 +130,6 @@ pub fn by_model(call: &Call) -> Vec<Part> {
             let Tables { starts, ends, offsets } = tables;
             vec![Part::Listed(listed), Part::Starts(starts), Part::Ends(ends), Part::Offsets(offsets)]
         }
+        Call::Drop { chain, memory } => vec![Part::Made(drop(*chain, memory.len())), Part::Memory(memory.clone())],
     }
-}
-
-/// The same chain with no run open.
-pub fn without_run(chain: &Chain) -> Chain {
-    Chain { place: Place::default(), ..*chain }
 }

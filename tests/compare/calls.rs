@@ -64,7 +64,7 @@ pub fn room(random: &mut Random, needed: usize) -> Room {
 
 /// A call of any name.
 pub fn any(random: &mut Random) -> Call {
-    match random.below(100) {
+    match random.below(105) {
         0..=5 => new(random),
         6..=10 => reset(random),
         11..=19 => start(random),
@@ -75,7 +75,8 @@ pub fn any(random: &mut Random) -> Call {
         71..=82 => pick_up(random),
         83..=88 => stateless::hunt_call(random),
         89..=94 => stateless::write_call(random),
-        _ => stateless::list_call(random),
+        95..=99 => stateless::list_call(random),
+        _ => drop(random),
     }
 }
 
@@ -150,6 +151,11 @@ fn closing_call(random: &mut Random) -> Call {
 fn save(random: &mut Random) -> Call {
     let Lent { chain, memory } = lent(random, true);
     Call::Save { chain, memory, room: room(random, SAVED_LENGTH) }
+}
+
+fn drop(random: &mut Random) -> Call {
+    let Lent { chain, memory } = lent(random, true);
+    Call::Drop { chain, memory }
 }
 
 /// A place of the same chain, sound or damaged in one condition, or with one bit or its length changed, or of another

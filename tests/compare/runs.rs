@@ -1,6 +1,6 @@
 //! Long runs: a stream cut into slices, the state carried over from call to call, with the other calls in between.
 
-use crate::call::{without_run, Call, Part, Room};
+use crate::call::{Call, Part, Room};
 use crate::chains::{sound, Lent};
 use crate::model::chain::Chain;
 use crate::model::numbers::*;
@@ -132,11 +132,12 @@ impl Run<'_, '_> {
         }
     }
 
-    /// Save, and pick up what was saved, into a chain whose registers are others by now.
+    /// Save, drop the run, and pick up what was saved, into a chain whose registers are others by now.
     fn power_off(&mut self) {
         let room = Room { length: 27, fill: self.random.byte() };
         let saved = written(&self.parts(|chain, memory| Call::Save { chain, memory, room }));
-        let mut chain = without_run(&self.chain);
+        self.make(|chain, memory| Call::Drop { chain, memory });
+        let mut chain = self.chain;
         for device in 0..chain.count as usize {
             chain.registers[device] = self.random.byte();
         }

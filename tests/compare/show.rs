@@ -56,6 +56,7 @@ pub fn call(call: &Call) -> String {
         Call::List { kind, mode, stream, lengths, fill } => {
             format!("kind {kind} mode {mode} stream {}\n    tables of {lengths:?} filled from {fill:02X}", hex(stream))
         }
+        Call::Drop { chain, memory } => lent(chain, memory),
     }
 }
 

@@ -1,10 +1,10 @@
-//! How often each call gave each number, and at which awaited bytes closing and byte met an open run; what a run of the
+//! How often each call gave each number, and at which awaited bytes closing, byte and drop met an open run; what a run of the
 //! comparison must have met.
 
 use crate::call::{Call, Part};
 use crate::model::numbers::*;
 
-const NAMES: [&str; 14] = [
+const NAMES: [&str; 15] = [
     "new",
     "reset",
     "start",
@@ -16,12 +16,13 @@ const NAMES: [&str; 14] = [
     "hunt",
     "write",
     "list",
+    "drop",
     "start_in",
     "slice_in",
     "pick_up_in",
 ];
 
-const RUNS: [&str; 4] = ["closing write", "closing check", "byte write", "byte check"];
+const RUNS: [&str; 6] = ["closing write", "closing check", "byte write", "byte check", "drop write", "drop check"];
 
 const AWAITED: [&str; 14] = [
     "byte at 0",
@@ -41,7 +42,7 @@ const AWAITED: [&str; 14] = [
 ];
 
 /// The numbers that each call can give: all of them must be met, and no other may be.
-const NUMBERS: [&[u8]; 14] = [
+const NUMBERS: [&[u8]; 15] = [
     &[0, 1],
     &[0, 1],
     &[0, 1, 2, 3, 17],
@@ -53,6 +54,7 @@ const NUMBERS: [&[u8]; 14] = [
     &[0, 5, 15],
     &[0, 1, 2, 11, 12, 13, 14, 15],
     &[0, 1, 2, 5, 8, 9, 10, 11, 12, 15, 16],
+    &[0, 1, 4, 17],
     &[0, 1, 2, 3, 17],
     &[0, 1, 4, 5, 6, 7, 8, 9, 10, 11, 12, 16, 17],
     &[0, 1, 3, 17],
@@ -84,15 +86,16 @@ pub fn rows(call: &Call) -> (usize, Option<usize>) {
     match call {
         Call::New { .. } => (0, None),
         Call::Reset { .. } => (1, None),
-        Call::Start { .. } => (2, Some(11)),
+        Call::Start { .. } => (2, Some(12)),
         Call::Byte { .. } => (3, None),
-        Call::Slice { .. } => (4, Some(12)),
+        Call::Slice { .. } => (4, Some(13)),
         Call::Closing { .. } => (5, None),
         Call::Save { .. } => (6, None),
-        Call::PickUp { .. } => (PICK_UP, Some(13)),
+        Call::PickUp { .. } => (PICK_UP, Some(14)),
         Call::Hunt { .. } => (8, None),
         Call::Write { .. } => (9, None),
         Call::List { .. } => (10, None),
+        Call::Drop { .. } => (11, None),
     }
 }
 
@@ -102,9 +105,9 @@ pub fn name(call: &Call) -> &'static str {
 
 #[derive(Default)]
 pub struct Tally {
-    numbers: [[u64; 18]; 14],
-    /// closing write, closing check, byte write, byte check
-    awaited: [[u64; 14]; 4],
+    numbers: [[u64; 18]; 15],
+    /// as in RUNS
+    awaited: [[u64; 14]; 6],
     /// The numbers of byte, by awaited byte.
     at: [[u64; 18]; 14],
 }
@@ -123,6 +126,7 @@ impl Tally {
         let (table, place) = match call {
             Call::Closing { chain, .. } => (0, &chain.place),
             Call::Byte { chain, .. } => (2, &chain.place),
+            Call::Drop { chain, .. } => (4, &chain.place),
             _ => return,
         };
         // Neither the state nor the memory was refused, and a run is open.

@@ -111,6 +111,7 @@ pub fn put_request(to: &mut Vec<u8>, call: &Call) {
             }
             to.push(*fill);
         }
+        Call::Drop { chain, memory } => put_state(to, 11, chain, memory),
     }
     let length = (to.len() - front - 4) as u32;
     to[front..front + 4].copy_from_slice(&length.to_le_bytes());

@@ -8,4 +8,4 @@ trap 'rm -rf "$room"' EXIT
 sh "$x86" cc "$room/stack" "$here/stack.c" "$1"
 sh "$x86" run "$room/stack" >"$room/table"
 cat "$room/table"
-awk '$2 > 2048 { print "more than 2048: " $0; bad = 1 } END { exit bad || NR != 14 }' "$room/table"
+awk '$2 > 2048 { print "more than 2048: " $0; bad = 1 } END { exit bad || NR != 15 }' "$room/table"

@@ -43,12 +43,14 @@ CALL(slice_in, .number, (&copy, mem, mem_len, s, s_len))
 CALL(byte, .answer.number, (c, mem, mem_len, b))
 CALL(closing, .number, (c, mem, mem_len, out, out_len))
 CALL(save, .number, (c, mem, mem_len, out, out_len))
+CALL(drop, .number, (c, mem, mem_len))
 CALL(pick_up, .number, (c, mem, mem_len, saved, sizeof saved))
 CALL(pick_up_in, , (&copy, mem, mem_len, saved, sizeof saved))
 CALL(hunt, .number, (s, s_len, out, out_len))
 CALL(write, .number, (kind, mode, 0, address, starts, tables, ends, tables, mem, BIG, out, out_len))
 CALL(list, .number, (kind, mode, s, s_len, listed, 1, listed + 1, 1, &offset, tables))
-#define ON_A_CHAIN &a_start, &a_start_in, &a_slice, &a_slice_in, &a_byte, &a_closing, &a_save, &a_pick_up, &a_pick_up_in
+#define ON_A_CHAIN \
+    &a_start, &a_start_in, &a_slice, &a_slice_in, &a_byte, &a_closing, &a_save, &a_drop, &a_pick_up, &a_pick_up_in
 
 static size_t deepest(const struct call *a, void (*f)(void))
 {
@@ -102,7 +104,7 @@ static void stop(size_t n)
     at6000_slice_in(&c, mem, mem_len, stream, n);
     at6000_save(c, mem, mem_len, saved, sizeof saved);
     s = stream + n, s_len = LENGTH - n;
-    GIVES(done, &a_slice, &a_slice_in, &a_closing, &a_save);
+    GIVES(done, &a_slice, &a_slice_in, &a_closing, &a_save, &a_drop);
     s_len = 1, b = *s;
     GIVES(n + 1 < LENGTH ? AT6000_MORE : done, &a_slice, &a_slice_in, &a_byte);
     b = 0xff;

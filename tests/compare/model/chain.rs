@@ -30,7 +30,7 @@ pub struct Chain {
     pub place: Place,
 }
 
-/// The answer of new, reset, start and pick-up.
+/// The answer of new, reset, start, drop and pick-up.
 #[derive(Clone, Copy, PartialEq, Eq, Debug)]
 pub struct Made {
     pub chain: Chain,
@@ -94,6 +94,12 @@ pub fn state_number(chain: &Chain, memory_length: usize) -> Option<u8> {
     } else {
         None
     }
+}
+
+/// 1, 17, then 4: "byte, slice, closing or save with no run open", and drop.
+pub fn open_number(chain: &Chain, memory_length: usize) -> Option<u8> {
+    let no_run = if chain.place.running == 0 { Some(NO_RUN) } else { None };
+    state_number(chain, memory_length).or(no_run)
 }
 
 /// "A new state is made from a count and eight kinds, those past the count taken as zero, with zero registers and no

@@ -1,16 +1,13 @@
 //! "Closing bytes": they end a stopped run and change no cell and no register. "They are written, not fed."
 
-use super::chain::{state_number, Chain};
+use super::chain::{open_number, Chain};
 use super::numbers::*;
 use super::output::{put, refused, Written};
 
 /// "Closing and save: 4, 15", after 1 and 17 of the state.
 pub fn closing(chain: &Chain, memory: &[u8], output: &mut [u8]) -> Written {
-    if let Some(number) = state_number(chain, memory.len()) {
+    if let Some(number) = open_number(chain, memory.len()) {
         return refused(number);
-    }
-    if chain.place.running == 0 {
-        return refused(NO_RUN);
     }
     put(&closing_bytes(chain, memory), output)
 }

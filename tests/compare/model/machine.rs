@@ -1,6 +1,6 @@
-//! The byte machine: start, slice, byte.
+//! The byte machine: start, slice, byte, drop.
 
-use super::chain::{state_number, Chain, Made, Place};
+use super::chain::{open_number, state_number, Chain, Made, Place};
 use super::numbers::*;
 
 #[derive(Clone, Copy, PartialEq, Eq, Debug)]
@@ -35,11 +35,7 @@ pub fn start(chain: Chain, memory_length: usize, mode: u8, check: u8) -> Made {
 /// "A whole-slice call feeds an open run and stops at its end; later bytes are not looked at." It answers "the number
 /// and the run's bytes taken and mismatches so far, 0 and 0 where 1, 17 or 4 is given".
 pub fn slice(mut chain: Chain, memory: &mut [u8], stream: &[u8]) -> Fed {
-    let mut refused = state_number(&chain, memory.len());
-    if refused.is_none() && chain.place.running == 0 {
-        refused = Some(NO_RUN);
-    }
-    if let Some(number) = refused {
+    if let Some(number) = open_number(&chain, memory.len()) {
         return Fed { chain, answer: Answer { number, taken: 0, mismatches: 0 } };
     }
     let mut number = MORE;
@@ -60,6 +56,14 @@ pub fn slice(mut chain: Chain, memory: &mut [u8], stream: &[u8]) -> Fed {
 /// "A byte call is a slice of one."
 pub fn byte(chain: Chain, memory: &mut [u8], byte: u8) -> Fed {
     slice(chain, memory, &[byte])
+}
+
+/// "Drops an open run without touching memory or registers": 1, 17, 4. "All other refusals change nothing."
+pub fn drop(chain: Chain, memory_length: usize) -> Made {
+    match open_number(&chain, memory_length) {
+        Some(number) => Made { chain, number },
+        None => Made { chain: Chain { place: Place::default(), ..chain }, number: DONE },
+    }
 }
 
 /// Takes one byte of a well-formed open run: 16 where the run goes on, else the number that ends it. "A refused byte

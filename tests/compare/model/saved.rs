@@ -1,6 +1,6 @@
 //! "Saved place, 27 bytes": save and pick-up.
 
-use super::chain::{state_number, Chain, Made, Place};
+use super::chain::{open_number, state_number, Chain, Made, Place};
 use super::numbers::*;
 use super::output::{put, refused, Written};
 use super::well_formed::well_formed;
@@ -66,11 +66,8 @@ fn unpack(saved: &[u8]) -> Option<(Place, [u8; 8])> {
 
 /// "Saving leaves the run open." "Closing and save: 4, 15", after 1 and 17 of the state.
 pub fn save(chain: &Chain, memory_length: usize, output: &mut [u8]) -> Written {
-    if let Some(number) = state_number(chain, memory_length) {
+    if let Some(number) = open_number(chain, memory_length) {
         return refused(number);
-    }
-    if chain.place.running == 0 {
-        return refused(NO_RUN);
     }
     put(&pack(&chain.place, &chain.registers), output)
 }
