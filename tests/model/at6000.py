@@ -1,7 +1,7 @@
 """The model of document 01 in Python, written from the paper and not from the crates' code or definitions.
 
 It is short and slow on purpose: each function follows the paper's sentences in their order, which are quoted beside it. cases.py works
-out with it what the program `cases` must print, listing.py what the program `listing` must. Each of the eleven calls answers its number
+out with it what the program `cases` must print, listing.py what the program `listing` must. Each of the twelve calls answers its number
 first. Taken from the interface, not from the paper: the names of the state's fields, `running` and `check` as bytes of which any but 0 and
 1 is not well formed in a lent state, and that start takes any check but 0 for a check. Where the paper leaves a choice, the readings in
 docs/DECISIONS.md are followed.
@@ -146,7 +146,7 @@ def state_number(c, mem):
 
 
 def open_number(c, mem):
-    """1, 17, then 4: "byte, slice, closing or save with no run open" """
+    """1, 17, then 4: "byte, slice, closing or save with no run open", and drop"""
     return state_number(c, mem) or (0 if c.place.running else 4)
 
 
@@ -315,6 +315,12 @@ def feed(c, mem, s):
 def byte(c, mem, b):
     """ "A byte call is a slice of one." """
     return feed(c, mem, bytes([b]))
+
+
+def drop(c, mem):
+    """Drops an open run without touching memory or registers: 1, 17, 4."""
+    number = open_number(c, mem)
+    return (number, c) if number else (0, Chain(c.count, list(c.kinds), list(c.registers)))
 
 
 # ---- Outputs

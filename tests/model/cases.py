@@ -13,13 +13,14 @@ each), of two tables and of the arguments (two bytes each), high byte first. A l
     # text                         a comment
     m                              memory filled with a, a + b, a + 2b ..
     = state                        a state that the caller makes up
-    n, r, s, p   number state      new, reset, start, pick-up
+    n, r, s, d, p   number state   new, reset, start, drop, pick-up
     b, f   number taken mismatches state      byte, slice
     c, v, h, w   number length     closing, save, hunt, write
     l   number windows control address taken starts ends offset ..     list; entries that were not written are ee
 
-A state is count, kinds, registers; running, mode, check, device, awaited, windows left, control; start end next; taken, mismatches. Then come `>address:bytes`
-for each run of bytes written into the output, which held ee, and `@address:bytes` for each run of memory cells that the call changed.
+A state is count, kinds, registers; running, mode, check, device, awaited, windows left, control; start end next; taken, mismatches. Fields that a place gets
+later (LATER) stand behind these where one of them is not zero, and read as 0 where they are not there: they move no line that has none. Then come
+`>address:bytes` for each run of bytes written into the output, which held ee, and `@address:bytes` for each run of memory cells that the call changed.
 """
 
 import sys
@@ -40,20 +41,25 @@ def eight(values):
     return list(values) + [0] * (8 - len(values))
 
 
+# The fields of a place, group by group as they are printed, each with its bytes; then those of later requests, one group.
+PLACE = [(1, "running mode check device awaited left control"), (2, "start end next"), (4, "taken"), (4, "mismatches")]
+LATER = (1, "")
+
+
+def groups(c):
+    def group(width, names):
+        return b"".join(getattr(c.place, name).to_bytes(width, "big") for name in names.split())
+
+    later = group(*LATER)
+    return [bytes([c.count]), bytes(c.kinds), bytes(c.registers), *(group(*fields) for fields in PLACE), *([later] if any(later) else [])]
+
+
 def chain_bytes(c):
-    p = c.place
-    head = [c.count, *c.kinds, *c.registers, p.running, p.mode, p.check, p.device, p.awaited, p.left, p.control]
-    words = b"".join(n.to_bytes(2, "big") for n in (p.start, p.end, p.next))
-    return bytes(head) + words + p.taken.to_bytes(4, "big") + p.mismatches.to_bytes(4, "big")
+    return b"".join(groups(c))
 
 
 def shown(c):
-    s = chain_bytes(c).hex()
-    parts, at = [], 0
-    for n in (1, 8, 8, 7, 6, 4, 4):
-        parts.append(s[2 * at : 2 * (at + n)])
-        at += n
-    return " " + " ".join(parts)
+    return "".join(" " + group.hex() for group in groups(c))
 
 
 def changes(mark, now, was):
@@ -131,6 +137,12 @@ class Script:
         got, self.c = at6000.start(self.c, mem, mode, check)
         self.agree(number, got)
         self.line("s", f" {got:02x}{shown(self.c)}", a=mode, b=check, mem=len(mem))
+
+    def drop(self, number, lent=None):
+        mem = self.lent(lent)
+        got, self.c = at6000.drop(self.c, mem)
+        self.agree(number, got)
+        self.line("d", f" {got:02x}{shown(self.c)}", mem=len(mem))
 
     def fed(self, letter, want, got, **args):
         number, taken, mismatches, self.c, after = got
@@ -1303,14 +1315,93 @@ def cases_stops(s):
             assert (s.mem, s.c) == unbroken
 
 
+def cases_drop(s):
+    two = stream(section([window(9, 11, "112233"), window(5, 5, "44", null=0xAA)], 0x81), lead="B2B2")
+
+    def drop(number=0):
+        """The run is gone, and cells, registers, count and kinds are as they were."""
+        before = s.mem, s.c.count, s.c.kinds, s.c.registers
+        s.drop(number)
+        assert (s.mem, s.c.count, s.c.kinds, s.c.registers) == before and s.c.place == Place()
+
+    for check in (0, 1):
+        s.say(f"drop, 0, a {'check' if check else 'write'} in mode 6: 'without touching memory or registers', at each awaited byte")
+        first = dict(zip([*range(13), 13], [*range(13), 21]))  # the two preambles to the first data byte, then the check byte
+        for awaited, k in first.items():
+            stopped(s, 6, check, 0xC3, two, k)
+            assert s.c.place.awaited == awaited
+            drop()
+    s.say("drop, 0: inside a window, before its last byte and before the next one; a start is taken afterwards")
+    for k in (13, 14, 15, 20):
+        stopped(s, 6, 0, 0xC3, two, k)
+        drop()
+        s.start(0, 6)
+        s.feed(0, two, 22, 0)
+    s.say("drop, 0: saved before, the place is picked up and the run goes on as if it had never stopped")
+    for check in (0, 1):
+        for k in (0, 2, 6, 9, 13, 21):
+            stopped(s, 6, check, 0xC3, two, k)
+            place = s.save(0)
+            drop()
+            s.pick_up(0, place)
+            s.feed(0, two[k:], 22, 4 * check)
+    s.say("drop, 0: a place that was saved earlier in the same run is picked up once the run is dropped")
+    stopped(s, 6, 0, 0xC3, two, 12)
+    place = s.save(0)
+    s.feed(16, two[12:20], 20, 0)
+    s.pick_up(3, place)
+    drop()
+    s.pick_up(0, place)
+    s.feed(0, two[12:], 22, 0)
+    s.say("drop, 0, on the last of eight devices: eight kinds and eight registers stay")
+    s.new(0, 8, [0, 2, 0, 0, 0, 0, 0, 2])
+    load(s, 1, 2, 3, 0x20, 0x21, 0x22, 0x23, 0x28)
+    s.start(0, 5)
+    s.feed(16, stream(*[section([], 0x40 + i) for i in (0, 1, 2, 3, 8, 9, 10, 11)])[:-1], 48, 0)
+    drop()
+    assert s.c.registers == [0x40, 0x41, 0x42, 0x43, 0x48, 0x49, 0x4A, 0x4B]
+    s.say("drop, 4: no run open: new, accepted, refused, dropped; a closed place's other fields are handed back as lent")
+    s.new(0, 1, [0])
+    s.drop(4)
+    s.start(0, 1)
+    s.feed(0, A)
+    s.drop(4)
+    s.start(0, 1)
+    s.byte(5, 0x00)
+    s.drop(4)
+    s.start(0, 1)
+    drop()
+    s.drop(4)
+    s.state(Chain(1, [0] * 8, [0x5A] + [0] * 7, Place(0, 9, 8, 7, 99, 5, 4, 300, 200, 100, 77, 66)))
+    s.drop(4)
+    s.say("drop, 1: 'lent memory of another length' and the rest of number 1, a run open or not; the state is as lent")
+    s.drop(1, lent=51)
+    s.start(0, 1)
+    for length in (51, 53, 0):
+        s.drop(1, lent=length)
+    for c, length in ((Chain(0), 0), (Chain(9), 416), (Chain(1, eight([4])), 52), (Chain(5, eight([10, 10, 10, 10, 0])), 65576)):
+        s.state(c)
+        s.drop(1, lent=length)
+    s.say("drop, 17: 'unused kinds or registers are not zero', 'whose open place is not well formed'; 1 before 17 before 4")
+    places = [Place(), Place(1, 1), Place(1, 0), Place(1, 7), Place(1, 1, 2), Place(1, 1, 0, 1), Place(1, 1, awaited=14), Place(1, 1, control=1)]
+    for place in [*places[2:], Place(2, 1), Place(255)]:
+        s.state(Chain(1, [0] * 8, [0] * 8, place))
+        s.drop(17)
+        s.drop(1, lent=0)
+    for place in places[:2]:
+        for c in (Chain(1, [0, 2] + [0] * 6), Chain(1, [0] * 7 + [1]), Chain(2, [0] * 8, [0, 0, 1] + [0] * 5), Chain(7, [0] * 8, [0] * 7 + [0x80])):
+            s.state(replace(c, place=place))
+            s.drop(17)
+
+
 ALL = [cases_new, cases_reset, cases_start, cases_bytes, cases_preamble, cases_control, cases_windows, cases_check_byte, cases_check, cases_guide]
-ALL += [cases_chains, cases_closing, cases_saved, cases_picked_up, cases_hunt, cases_write, cases_list, cases_stops]
+ALL += [cases_chains, cases_closing, cases_saved, cases_picked_up, cases_hunt, cases_write, cases_list, cases_stops, cases_drop]
 
 
 # Every number that each call can give, by the paper's table; each is given at least once.
 FED = {0, 1, 4, 5, 6, 7, 8, 9, 10, 11, 12, 16, 17}
 CAN_GIVE = {"n": {0, 1}, "r": {0, 1}, "s": {0, 1, 2, 3, 17}, "b": FED, "f": FED, "c": {0, 1, 4, 15, 17}, "v": {0, 1, 4, 15, 17}, "p": {0, 1, 3, 17}}
-CAN_GIVE |= {"h": {0, 5, 15}, "w": {0, 1, 2, 11, 12, 13, 14, 15}, "l": {0, 1, 2, 5, 8, 9, 10, 11, 12, 15, 16}}
+CAN_GIVE |= {"d": {0, 1, 4, 17}, "h": {0, 5, 15}, "w": {0, 1, 2, 11, 12, 13, 14, 15}, "l": {0, 1, 2, 5, 8, 9, 10, 11, 12, 15, 16}}
 
 
 def main():

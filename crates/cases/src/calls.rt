@@ -24,12 +24,9 @@ fn state(c: Chain) {
     let rs = c.registers;
     let p = c.place;
     show::byte(c.count);
-    show::text(b" ");
-    show::hex(&ks);
-    show::text(b" ");
-    show::hex(&rs);
-    show::text(b" ");
-    show::hex(
+    show::group(&ks);
+    show::group(&rs);
+    show::group(
         &[
             p.running,
             p.mode,
@@ -41,26 +38,31 @@ fn state(c: Chain) {
         ],
     );
     show::words(&[p.start, p.end, p.next]);
-    show::long(p.taken);
-    show::long(p.mismatches);
+    show::longs(&[p.taken, p.mismatches]);
 }
 
-// The state that the arguments spell, in the order in which it is printed.
+// The place that the arguments spell from its first byte on, in the order in which it is printed.
+fn place(s: &[u8]) -> Place {
+    let mut p = chain::closed_place();
+    p.running = at(s, 0);
+    p.mode = at(s, 1);
+    p.check = at(s, 2);
+    p.device = at(s, 3);
+    p.awaited = at(s, 4);
+    p.left = at(s, 5);
+    p.control = at(s, 6);
+    p.start = word(rest(s, 7));
+    p.end = word(rest(s, 9));
+    p.next = word(rest(s, 11));
+    p.taken = long(rest(s, 13));
+    p.mismatches = long(rest(s, 17));
+    p
+}
+
+// The state that the arguments spell; what they do not reach is 0. So a field that a place gets later is spelled behind the mismatches, and printed
+// there where it is not 0: no line without it moves.
 fn spelled(s: &[u8]) -> Chain {
-    let p = Place {
-        running: at(s, 17),
-        mode: at(s, 18),
-        check: at(s, 19),
-        device: at(s, 20),
-        awaited: at(s, 21),
-        left: at(s, 22),
-        control: at(s, 23),
-        start: word(rest(s, 24)),
-        end: word(rest(s, 26)),
-        next: word(rest(s, 28)),
-        taken: long(rest(s, 30)),
-        mismatches: long(rest(s, 34)),
-    };
+    let p = place(rest(s, 17));
     let ks = eight(rest(s, 1));
     let rs = eight(rest(s, 9));
     Chain {
@@ -109,9 +111,10 @@ fn made(m: Made) -> Chain {
 
 fn fed(f: Fed) -> Chain {
     let c = f.chain;
-    show::byte(f.answer.number);
-    show::long(f.answer.taken);
-    show::long(f.answer.mismatches);
+    let a = f.answer;
+    show::byte(a.number);
+    show::long(a.taken);
+    show::long(a.mismatches);
     state(c);
     c
 }
@@ -146,8 +149,7 @@ fn list(call: Call, s: &[u8], starts: &mut [u16], ends: &mut [u16], offsets: &mu
     show::byte(l.number);
     show::byte(l.windows);
     show::byte(l.control);
-    show::text(b" ");
-    show::hex(&address);
+    show::group(&address);
     show::long(l.taken);
     show::words(starts);
     show::words(ends);
@@ -162,6 +164,7 @@ pub fn on_state(call: Call, c: Chain, mem: &mut [u8], args: &[u8]) -> Chain {
         b'n' => made(chain::new(call.a, eight(args), mem)),
         b'r' => made(chain::reset(c, mem)),
         b's' => made(machine::start(c, mem, call.a, call.b)),
+        b'd' => made(machine::drop(c, mem)),
         b'b' => fed(machine::byte(c, mem, call.a)),
         b'f' => fed(machine::slice(c, mem, args)),
         b'p' => made(saved::pick_up(c, mem, args)),
@@ -169,14 +172,29 @@ pub fn on_state(call: Call, c: Chain, mem: &mut [u8], args: &[u8]) -> Chain {
     }
 }
 
-// The calls with an output or tables, and text.
-pub fn on_output(call: Call, c: Chain, mem: &[u8], args: &[u8], out: &mut [u8]) {
+// The calls with tables.
+fn on_tables(call: Call, args: &[u8], out: &mut [u8]) {
     let mut starts = [WORD; 512];
     let mut ends = [WORD; 512];
     let mut offsets = [LONG; 512];
     let i = least(call.starts, 512);
     let j = least(call.ends, 512);
     let k = least(call.out, 512);
+    if call.letter == b'w' {
+        write(call, args, &mut starts[0..i], &mut ends[0..j], out);
+    } else {
+        list(
+            call,
+            args,
+            &mut starts[0..i],
+            &mut ends[0..j],
+            &mut offsets[0..k],
+        );
+    }
+}
+
+// The calls with an output or tables, and text.
+pub fn on_output(call: Call, c: Chain, mem: &[u8], args: &[u8], out: &mut [u8]) {
     let letter = call.letter;
     match letter {
         b'c' => {
@@ -191,17 +209,8 @@ pub fn on_output(call: Call, c: Chain, mem: &[u8], args: &[u8], out: &mut [u8]) 
             let w = hunt::hunt(args, out);
             written(w.number, w.length);
         }
-        b'w' => {
-            write(call, args, &mut starts[0..i], &mut ends[0..j], out);
-        }
-        b'l' => {
-            list(
-                call,
-                args,
-                &mut starts[0..i],
-                &mut ends[0..j],
-                &mut offsets[0..k],
-            );
+        b'w' | b'l' => {
+            on_tables(call, args, out);
         }
         b'#' => {
             show::text(args);

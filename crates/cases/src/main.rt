@@ -10,58 +10,50 @@ use crate::script::least;
 use chain::Chain;
 use libc::STDIN_FILENO;
 
+// Memory has room for a chain that is refused for its total alone: four devices of kind 10 and one of kind 0.
+const CELLS: usize = 65576;
+
+// Room for the arguments, and for the output.
+const ROOM: usize = 65536;
+
+// What stands in the output before the call.
+const LENT: u8 = 0xee;
+
 struct Next {
     more: bool,
     chain: Chain,
 }
 
-// `old` is memory before the call, and `blank` the output.
-fn prepare(call: Call, mem: &mut [u8], old: &mut [u8], out: &mut [u8], blank: &[u8]) {
-    calls::fill(call, mem);
-    calls::fill(call, old);
-    cells::copy(out, blank);
-}
-
-// The line's front: the letter and the answers. What the call wrote into the output and what it changed in memory follow.
+// The letter and the answers, then what the call wrote into the output.
 fn answer(call: Call, c: Chain, args: &[u8], mem: &mut [u8], out: &mut [u8]) -> Chain {
+    let blank = [LENT; ROOM];
     show::text(&[call.letter]);
     let d = calls::on_state(call, c, mem, args);
     calls::on_output(call, c, mem, args, out);
+    show::changes(b'>', out, &blank);
     d
 }
 
-// The end of the line; memory as it is now is the old one of the next call.
-fn report(mem: &[u8], old: &mut [u8], out: &[u8], blank: &[u8]) {
-    show::changes(b'>', out, blank);
-    show::changes(b'@', mem, old);
-    show::text(b"\n");
-    cells::copy(old, mem);
+fn with_output(call: Call, c: Chain, args: &[u8], mem: &mut [u8]) -> Chain {
+    let mut out = [LENT; ROOM];
+    let k = least(call.out, ROOM);
+    answer(call, c, args, mem, &mut out[0..k])
 }
 
-fn make(
-    call: Call,
-    c: Chain,
-    args: &[u8],
-    mem: &mut [u8],
-    old: &mut [u8],
-    out: &mut [u8],
-    blank: &[u8],
-) -> Chain {
-    prepare(call, mem, old, out, blank);
-    let d = answer(call, c, args, mem, out);
-    report(mem, old, out, blank);
+// A whole line: at its end stands what the call changed in memory.
+fn make(call: Call, c: Chain, args: &mut [u8], mem: &mut [u8]) -> Chain {
+    let mut old = [0u8; CELLS];
+    io::read_full(STDIN_FILENO, args);
+    calls::fill(call, mem);
+    cells::copy(&mut old, mem);
+    let d = with_output(call, c, args, mem);
+    show::changes(b'@', mem, &old);
+    show::text(b"\n");
     d
 }
 
 // Reads one call and makes it with what it is lent.
-fn turn(
-    c: Chain,
-    args: &mut [u8],
-    mem: &mut [u8],
-    old: &mut [u8],
-    out: &mut [u8],
-    blank: &[u8],
-) -> Next {
+fn turn(c: Chain, mem: &mut [u8]) -> Next {
     let mut head = [0u8; 16];
     if io::read_full(STDIN_FILENO, &mut head) < 16 {
         return Next {
@@ -70,19 +62,10 @@ fn turn(
         };
     }
     let call = call_of(head);
-    let n = least(call.args, args.len());
-    let m = least(call.mem, least(mem.len(), old.len()));
-    let k = least(call.out, out.len());
-    io::read_full(STDIN_FILENO, &mut args[0..n]);
-    let d = make(
-        call,
-        c,
-        &args[0..n],
-        &mut mem[0..m],
-        &mut old[0..m],
-        &mut out[0..k],
-        blank,
-    );
+    let mut args = [0u8; ROOM];
+    let n = least(call.args, ROOM);
+    let m = least(call.mem, mem.len());
+    let d = make(call, c, &mut args[0..n], &mut mem[0..m]);
     Next {
         more: true,
         chain: d,
@@ -90,11 +73,11 @@ fn turn(
 }
 
 // Nothing says that the input ends, so the calls are counted down, from more than any script has.
-fn run(args: &mut [u8], mem: &mut [u8], old: &mut [u8], out: &mut [u8], blank: &[u8]) {
+fn run(mem: &mut [u8]) {
     let mut c = calls::zero();
     let mut turns = u64::MAX;
     while turns > 0 {
-        let t = turn(c, args, mem, old, out, blank);
+        let t = turn(c, mem);
         if !t.more {
             return;
         }
@@ -103,12 +86,7 @@ fn run(args: &mut [u8], mem: &mut [u8], old: &mut [u8], out: &mut [u8], blank: &
     }
 }
 
-// Memory has room for a chain that is refused for its total alone: four devices of kind 10 and one of kind 0.
 fn main() {
-    let mut args = [0u8; 65536];
-    let mut mem = [0u8; 65576];
-    let mut old = [0u8; 65576];
-    let mut out = [0u8; 65536];
-    let blank = [0xeeu8; 65536];
-    run(&mut args, &mut mem, &mut old, &mut out, &blank);
+    let mut mem = [0u8; CELLS];
+    run(&mut mem);
 }

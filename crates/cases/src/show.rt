@@ -46,14 +46,18 @@ pub fn text(s: &[u8]) {
     io::write_all(STDOUT_FILENO, s);
 }
 
-pub fn byte(n: u8) {
+// Bytes that stand apart from what is before them.
+pub fn group(s: &[u8]) {
     text(b" ");
-    hex(&[n]);
+    hex(s);
+}
+
+pub fn byte(n: u8) {
+    group(&[n]);
 }
 
 pub fn long(n: u32) {
-    text(b" ");
-    hex(
+    group(
         &[
             (n / 16777216) as u8,
             (n / 65536 % 256) as u8,

@@ -1,4 +1,4 @@
--- `cases::run` is safe and ends: each turn counts down, and every buffer keeps its length.
+-- `cases::run` is safe and ends: each turn counts down, and memory keeps its length.
 use Prim.Native.Nat.{_-_}
 use mathlib.Core.Path.{_≡_}
 use borrow.Author.Needs.{needs}
@@ -7,10 +7,10 @@ use Rattle.cases.proofs.run.Statement.{statement}
 use Rattle.cases.proofs.run.Tie as tie
 
 abbrev Inv-loop : tie.InvT-loop
-Inv-loop args₀ mem₀ old₀ out₀ blank c₀ turns₀ args mem old out c turns = (length args ≡ length args₀) × (length mem ≡ length mem₀) × (length old ≡ length old₀) × (length out ≡ length out₀)
+Inv-loop mem₀ c₀ turns₀ mem c turns = length mem ≡ length mem₀
 
 abbrev μ-loop : tie.MeasureT-loop
-μ-loop args₀ mem₀ old₀ out₀ blank c₀ turns₀ args mem old out c turns = turns
+μ-loop mem₀ c₀ turns₀ mem c turns = turns
 
 zero-requires : tie.Need-zero-requires Inv-loop μ-loop
 zero-requires c κs = search needs
@@ -24,15 +24,6 @@ turn-requires c κs = search needs
 same-length : tie.Need-same-length Inv-loop μ-loop
 same-length c = search needs
 
-same-length-2 : tie.Need-same-length-2 Inv-loop μ-loop
-same-length-2 c = search needs
-
-same-length-3 : tie.Need-same-length-3 Inv-loop μ-loop
-same-length-3 c = search needs
-
-same-length-4 : tie.Need-same-length-4 Inv-loop μ-loop
-same-length-4 c = search needs
-
 returns : tie.Need-returns Inv-loop μ-loop
 returns c = search needs
 
@@ -45,17 +36,8 @@ loop-less c = search needs
 loop-again : tie.Need-loop-again Inv-loop μ-loop
 loop-again c = search needs
 
-same-length-5 : tie.Need-same-length-5 Inv-loop μ-loop
-same-length-5 c = search needs
-
-same-length-6 : tie.Need-same-length-6 Inv-loop μ-loop
-same-length-6 c = search needs
-
-same-length-7 : tie.Need-same-length-7 Inv-loop μ-loop
-same-length-7 c = search needs
-
-same-length-8 : tie.Need-same-length-8 Inv-loop μ-loop
-same-length-8 c = search needs
+same-length-2 : tie.Need-same-length-2 Inv-loop μ-loop
+same-length-2 c = search needs
 
 returns-2 : tie.Need-returns-2 Inv-loop μ-loop
 returns-2 c = search needs
@@ -70,15 +52,9 @@ run-spec =
     loop-holds
     turn-requires
     same-length
-    same-length-2
-    same-length-3
-    same-length-4
     returns
     sub-turns
     loop-less
     loop-again
-    same-length-5
-    same-length-6
-    same-length-7
-    same-length-8
+    same-length-2
     returns-2)
