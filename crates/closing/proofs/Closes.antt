@@ -1,15 +1,17 @@
 -- The law of closing bytes: in every state whose run the calls take as open they end it, at exactly their last byte, and change no cell and no
 -- register; they are at most size + 3. Assumes nothing.
-use Prim.Native.Nat.{ℕ, zero, suc, _+_, _-_, _/_, _*_, _%_, _^_, _<_, _≤_}
+use Prim.Native.Nat.{ℕ, suc, _+_, _-_, _/_, _%_, _^_, _<_, _≤_}
 use mathlib.Core.Bool.{false, _&&_}
-use mathlib.Core.Path.{_≡_, refl, ap, sym, subst, _∙_}
+use mathlib.Core.Path.{_≡_, refl, ap, _∙_}
 use mathlib.Core.List.{List, [], _∷_}
-use native.Mathlib.Nat.{not-suc-le-zero, div-add-mod'}
+use native.Mathlib.Nat.{div-add-mod'}
 use native.Mathlib.Omega.{arith}
 use lib.Dec.{eqb, ltb}
 use lib.ListN.{length, take, drop, length-append, length-take}
-use borrow.Author.Tests.{eqb-true, eqb-false, ne-eqb, le-ltb, ltb-true, ltb-false}
-use Rattle.chain.proofs.ByCases.{by-test, either-way, no-case, _or_, below}
+use borrow.Author.Tests.{eqb-true, ne-eqb, le-ltb}
+use Rattle.chain.proofs.ByCases.{by-test, no-case, _or_, below}
+use Rattle.chain.proofs.FirstOf.{first-never}
+use Rattle.chain.proofs.Means.{says, reads}
 use Rattle.chain.proofs.Sound.{feed-is-open}
 use Rattle.chain.specs.declared.Chain.{Chain}
 use Rattle.chain.specs.declared.Place.{Place}
@@ -17,6 +19,7 @@ use Rattle.chain.specs.Paper.{at·preamble, at·second, at·null, at·start, at
 use Rattle.chain.specs.Rules.{Rule, _gives_, firstOf, from}
 use Rattle.chain.specs.Set.{with·place, closedPlace}
 use Rattle.chain.specs.Kinds.{baseOf, sizeHere}
+use Rattle.chain.specs.Window.{withLow}
 use Rattle.chain.specs.State.{openNumber, feedNumber}
 use Rattle.machine.specs.Run.{run, runOf}
 use Rattle.machine.specs.Calls.{answered, fedOf, sliceOf, sliceMemory}
@@ -24,7 +27,7 @@ use Rattle.closing.specs.Closing.{withFF, tail, window, refusesFF, endLo
 use Rattle.closing.specs.Calls.{writtenNumber}
 use Rattle.closing.proofs.Meets.{number-open}
 use Rattle.closing.proofs.Ends.{Ends}
-use Rattle.closing.proofs.Rows.{takesFF, ends-0, ends-1, ends-2, ends-3, ends-4, ends-5, ends-6, ends-7, ends-8, ends-9, ends-10, ends-11, ends-12, ends-13}
+use Rattle.closing.proofs.Rows.{ends-0, ends-1, ends-2, ends-3, ends-4, ends-5, ends-6, ends-7, ends-8, ends-9, ends-10, ends-11, ends-12, ends-13}
 use Rattle.closing.proofs.Sound.{Sound, sound}
 
 -- when the closing bytes end a run with a number other than 0: 5 at a preamble, 11 and 12 where FF FF is sent as a start or an end
@@ -70,43 +73,6 @@ module _ (c : Chain) (m : List ℕ) (s : Sound c m) where
   least : 52 ≤ sizeHere c
   least = s .least
 
-  row-0 : Closed-at c m 0
-  unfolding closingBytes closingNumber
-  row-0 = record { ends = λ e. shaped c m (ends-0 c m e) (rw e) (rw e); short = λ e. rw e (omega arith) }
-
-  row-1 : Closed-at c m 1
-  unfolding closingBytes closingNumber
-  row-1 = record { ends = λ e. shaped c m (ends-1 c m e) (rw e) (rw e); short = λ e. rw e (omega arith) }
-
-  row-2 : Closed-at c m 2
-  unfolding closingBytes closingNumber
-  row-2 =
-      record { ends = λ e. shaped c m (ends-2 c m e (s .register e)) (rw e) (rw e); short = λ e. rw e (omega (arith, least)) }
-
-  row-3 : Closed-at c m 3
-  unfolding closingBytes closingNumber
-  row-3 = record { ends = λ e. shaped c m (ends-3 c m e) (rw e) (rw e); short = λ e. rw e (omega (arith, least)) }
-
-  row-4 : Closed-at c m 4
-  unfolding closingBytes closingNumber
-  row-4 = record { ends = λ e. shaped c m (ends-4 c m e) (rw e) (rw e); short = λ e. rw e (omega (arith, least)) }
-
-  row-5 : Closed-at c m 5
-  unfolding closingBytes closingNumber
-  row-5 = record { ends = λ e. shaped c m (ends-5 c m e) (rw e) (rw e); short = λ e. rw e (omega arith) }
-
-  row-6 : Closed-at c m 6
-  unfolding closingBytes closingNumber
-  row-6 = record { ends = λ e. shaped c m (ends-6 c m e) (rw e) (rw e); short = λ e. rw e (omega arith) }
-
-  row-7 : Closed-at c m 7
-  unfolding closingBytes closingNumber
-  row-7 = record { ends = λ e. shaped c m (ends-7 c m small e) (rw e) (rw e); short = λ e. rw e (omega arith) }
-
-  row-8 : Closed-at c m 8
-  unfolding closingBytes closingNumber
-  row-8 = record { ends = λ e. shaped c m (ends-8 c m small e) (rw e) (rw e); short = λ e. rw e (omega arith) }
-
   row-9 : Closed-at c m 9
   unfolding closingBytes closingNumber
   row-9 =
@@ -114,14 +80,6 @@ module _ (c : Chain) (m : List ℕ) (s : Sound c m) where
         ends = λ e. shaped c m (ends-9 c m small e) (rw e) (rw e);
         short = λ e. rw e (by-test (ltb (withFF (c .place .start)) (sizeHere c)) (λ q. rw q (omega arith)) (λ q. rw q (omega arith)));
       }
-
-  row-10 : Closed-at c m 10
-  unfolding closingBytes closingNumber
-  row-10 = record { ends = λ e. shaped c m (ends-10 c m small e) (rw e) (rw e); short = λ e. rw e (omega arith) }
-
-  row-13 : Closed-at c m 13
-  unfolding closingBytes closingNumber
-  row-13 = record { ends = λ e. shaped c m (ends-13 c m e) (rw e) (rw e); short = λ e. rw e (omega arith) }
 
   -- a window's cells and its tail
   tail-short : (p : Place) → length (tail p) ≤ 3
@@ -150,7 +108,7 @@ module _ (c : Chain) (m : List ℕ) (s : Sound c m) where
 
   -- the window up to the end that the low byte makes leaves room for one byte more
   end-short : (p : Place) → withFF (p .end) < sizeHere c → p .start ≤ withFF (p .end)
-      → p .end / 256 * 256 + endLow p - p .start + 2 ≤ sizeHere c
+      → withLow (p .end) (endLow p) - p .start + 2 ≤ sizeHere c
   end-short p l g =
       by-test (eqb (p .end / 256) (p .start / 256))
       (λ q. rw q (omega (arith, least, eqb-true (p .end / 256) (p .start / 256) q, div-add-mod' (p .start) 256)))
@@ -165,36 +123,37 @@ module _ (c : Chain) (m : List ℕ) (s : Sound c m) where
       }
     where
       fits : refusesFF c ≡ false
-          → suc (length (window c m (c .place .start) (c .place .end / 256 * 256 + endLow (c .place)))) ≤ sizeHere c + 3
+          → suc (length (window c m (c .place .start) (withLow (c .place .end) (endLow (c .place))))) ≤ sizeHere c + 3
       fits q =
           let p = c .place in
-          let t = takesFF (ltb (withFF (p .end)) (sizeHere c)) (ltb (withFF (p .end)) (p .start)) q in
-          omega (
-            arith,
-            end-short p (ltb-true (withFF (p .end)) (sizeHere c) (t .0)) (ltb-false (withFF (p .end)) (p .start) (t .1)),
-            window-short (p .start) (p .end / 256 * 256 + endLow p),
-          )
+          let t : (p .start ≤ withFF (p .end)) × (withFF (p .end) < sizeHere c) = says (search reads) q in
+          omega (arith, end-short p (t .1) (t .0), window-short (p .start) (withLow (p .end) (endLow p)))
 
   every : Closed-at c m (c .place .awaited)
+  unfolding closingBytes closingNumber
   every =
       below (Closed-at c m) 14
-      (no-case or row-0 or row-1 or row-2 or row-3 or row-4 or row-5 or row-6 or row-7 or row-8 or row-9 or row-10 or row-11 or row-12 or row-13)
+      (no-case
+      or record { ends = λ e. shaped c m (ends-0 c m e) (rw e) (rw e); short = λ e. rw e (omega arith) }
+      or record { ends = λ e. shaped c m (ends-1 c m e) (rw e) (rw e); short = λ e. rw e (omega arith) }
+      or record { ends = λ e. shaped c m (ends-2 c m e (s .register e)) (rw e) (rw e); short = λ e. rw e (omega (arith, least)) }
+      or record { ends = λ e. shaped c m (ends-3 c m e) (rw e) (rw e); short = λ e. rw e (omega (arith, least)) }
+      or record { ends = λ e. shaped c m (ends-4 c m e) (rw e) (rw e); short = λ e. rw e (omega (arith, least)) }
+      or record { ends = λ e. shaped c m (ends-5 c m e) (rw e) (rw e); short = λ e. rw e (omega arith) }
+      or record { ends = λ e. shaped c m (ends-6 c m e) (rw e) (rw e); short = λ e. rw e (omega arith) }
+      or record { ends = λ e. shaped c m (ends-7 c m small e) (rw e) (rw e); short = λ e. rw e (omega arith) }
+      or record { ends = λ e. shaped c m (ends-8 c m small e) (rw e) (rw e); short = λ e. rw e (omega arith) }
+      or row-9
+      or record { ends = λ e. shaped c m (ends-10 c m small e) (rw e) (rw e); short = λ e. rw e (omega arith) }
+      or row-11
+      or row-12
+      or record { ends = λ e. shaped c m (ends-13 c m e) (rw e) (rw e); short = λ e. rw e (omega arith) })
       (c .place .awaited) (s .awaited)
 
 -- no closing number is 16
-abbrev Over : List Rule → Type 0
-Over [] = Unit {0}
-Over ((b gives k) ∷ rules) = (k ≡ more → ⊥) × Over rules
-
-first-over : (rules : List Rule) (n : ℕ) → (n ≡ more → ⊥) → Over rules → firstOf rules n ≡ more → ⊥
-first-over [] n h t = h
-first-over ((b gives k) ∷ rules) n h t = either-way (λ (x : ℕ). x ≡ more → ⊥) b k (firstOf rules n) (t .0) (first-over rules n h (t .1))
-
 never-more : (c : Chain) → closingNumber c ≡ more → ⊥
 unfolding closingNumber
-never-more c =
-    first-over (endRules c) done (omega arith)
-    (omega arith, (omega arith, (omega arith, (omega arith, (omega arith, (omega arith, (omega arith, tt)))))))
+never-more c = first-never (endRules c) done more (omega arith) tt
 
 -- ---- the law
 

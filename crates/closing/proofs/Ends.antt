@@ -1,6 +1,5 @@
 -- Bytes that end an open run at exactly their last one and change nothing: what that means, for one byte, and for bytes before others. Assumes nothing.
 use Prim.Native.Nat.{ℕ, _+_, _-_, _<_, _≤_, _%_, _^_}
-use mathlib.Core.Bool.{true, false}
 use mathlib.Core.Path.{_≡_, refl, ap, sym, _∙_}
 use mathlib.Core.List.{List, [], _∷_, _++_}
 use native.Mathlib.Nat.{mod-add-mod}

@@ -1,16 +1,16 @@
--- Parts of a list, read as far as it goes, and bytes written over a part of it. Assumes nothing.
-use Prim.Native.Nat.{ℕ, suc, _+_, _-_, _<_, _≤_}
+-- Parts of a list, read as far as it goes, and what is answered and left where bytes are put. Assumes nothing.
+use Prim.Native.Nat.{ℕ, _+_, _-_, _<_, _≤_}
 use mathlib.Core.Path.{_≡_, sym, _∙_}
 use mathlib.Core.Logic.{_⊎_, ⊎-elim}
-use mathlib.Core.List.{List, [], _∷_, _++_, append-assoc, append-nil}
+use mathlib.Core.List.{List, [], _++_}
 use native.Mathlib.Nat.{zero-add}
 use native.Mathlib.Omega.{arith}
 use borrow.Author.Tests.{lt-ltb, le-ltb}
-use borrow.Rule.Slice.PartMut.{putMid, post-is}
-use lib.ListN.{length, set, take, drop, length-append, length-take, length-drop, drop-of-length-le}
-use lib.Seq.{sets, sets-eq, take-all, drop-drop, drop-length}
+use lib.ListN.{length, take, drop, length-append, length-take, length-drop, drop-of-length-le}
+use lib.Seq.{sets, take-all}
+use Rattle.cells.proofs.Over.{sets-front, sets-append}
 use Rattle.chain.specs.Paper.{done, too-short}
-use Rattle.closing.specs.Put.{written, Put}
+use Rattle.closing.specs.Put.{Put}
 
 -- k elements from a on are the n elements from at on, where both stop at the end of the list
 module _ (m : List ℕ) (at n a k : ℕ) (h : a ≤ at) (l : a ≤ length m) (f : k ≤ n) (g : k ≤ length m - a) where
@@ -35,34 +35,12 @@ module _ (m : List ℕ) (at n a k : ℕ) (h : a ≤ at) (l : a ≤ length m) (f 
   pub part-short : length (take (a + k - a) (drop a m)) ≤ n
   part-short = simp (length-take, length-drop) (omega arith)
 
--- bs over the front of a list
-pub sets-front : (bs out : List ℕ) → length bs ≤ length out → sets out 0 bs ≡ bs ++ drop (length bs) out
-sets-front bs out h = sets-eq bs out 0 (omega arith) ∙ rw zero-add
-
--- one after the other is both at once
-pub sets-append : (xs ys l : List ℕ) (i : ℕ) → sets l i (xs ++ ys) ≡ sets (sets l i xs) (i + length xs) ys
-sets-append [] ys l i =
-    let e : i + 0 ≡ i = omega arith in
-    rw e
-sets-append (x ∷ xs) ys l i =
-    let e : i + suc (length xs) ≡ suc i + length xs = omega arith in
-    rw e (sets-append xs ys (set l i x) (suc i))
-
--- a part that was lent, back with bs over its front
-pub put-from : (xs ys bs : List ℕ) (i : ℕ) → i + length bs ≤ length xs → ys ≡ sets (take (length xs - i) (drop i xs)) 0 bs
-    → putMid i (length xs - i) xs ys ≡ sets xs i bs
-put-from xs ys bs i h e =
-    let l : length (drop i xs) ≤ length xs - i = omega (arith, length-drop i xs) in
-    let f : length bs ≤ length (drop i xs) = omega (arith, length-drop i xs) in
-    rw (e, take-all (length xs - i) (drop i xs) l, sets-front bs (drop i xs) f, drop-drop (length bs) i xs, post-is i (length xs) xs (omega arith), drop-length xs, append-nil (bs ++ drop (i + length bs) xs))
-    (sym (sets-eq bs xs i h ∙ append-assoc (take i xs) bs (drop (i + length bs) xs)))
-
 -- what put answers, and leaves
 module _ (bs out : List ℕ) where
-  pub put-short : length out < length bs → Put bs out (written too-short 0) out
+  pub put-short : length out < length bs → Put bs out (record { number = too-short; length = 0 }) out
   put-short h = record { answer = rw (lt-ltb (length out) (length bs) h); output = rw (lt-ltb (length out) (length bs) h) }
 
-  pub put-done : (n : ℕ) (out′ : List ℕ) → length bs ≤ length out → n ≡ length bs → out′ ≡ sets out 0 bs → Put bs out (written done n) out′
+  pub put-done : (n : ℕ) (out′ : List ℕ) → length bs ≤ length out → n ≡ length bs → out′ ≡ sets out 0 bs → Put bs out (record { number = done; length = n }) out′
   put-done n out′ h e f =
       record { answer = rw (le-ltb (length out) (length bs) h, e); output = rw (le-ltb (length out) (length bs) h) (f ∙ sets-front bs out h) }
 

@@ -1,15 +1,16 @@
 -- Each row of closing bytes ends a run that awaits its byte: by the byte's own step and the row of the byte after it. Assumes nothing.
 use Prim.Native.Nat.{ℕ, _+_, _-_, _*_, _/_, _<_, _≤_}
-use mathlib.Core.Bool.{Bool, true, false, not, _&&_, _||_, and-false, or-true, or-comm, true≢false}
+use mathlib.Core.Bool.{Bool, true, false, _&&_, and-false, or-true}
 use mathlib.Core.Path.{_≡_, refl, _∙_}
 use mathlib.Core.List.{List, [], _∷_}
 use native.Mathlib.Nat.{div-add-mod', mod-lt}
 use native.Mathlib.Omega.{arith}
 use lib.Dec.{eqb, ltb, leb, lit<}
-use lib.ListN.{length, getD, take, drop, length-drop}
+use lib.ListN.{length, take, drop, length-drop}
 use lib.Seq.{set-getD, length-take-le}
-use borrow.Author.Tests.{lt-ltb, le-ltb, lt-leb, eqb-true, eqb-false, ltb-true, ltb-false}
+use borrow.Author.Tests.{lt-ltb, le-ltb, lt-leb, eqb-true, eqb-false}
 use Rattle.chain.proofs.ByCases.{by-test}
+use Rattle.chain.proofs.Means.{says, reads}
 use Rattle.chain.specs.declared.Chain.{Chain}
 use Rattle.chain.specs.declared.Place.{Place}
 use Rattle.chain.specs.Paper.{postamble, no-windows, at·preamble, at·second, at·control, at·address, at·address2, at·address3, at·count, at·null, at·start, at·start-low, at·end, at·end-low, at·data, at·check, writing, done, no-preamble, bad-start, bad-end, more, B3}
@@ -210,27 +211,23 @@ ends-12 c m s e f g =
 
 -- the end that the low byte makes
 module _ (p : Place) (size : ℕ) (l : withFF (p .end) < size) (g : p .start ≤ withFF (p .end)) where
-  pub end-fits : (p .start ≤ p .end / 256 * 256 + endLow p) × (p .end / 256 * 256 + endLow p < size)
+  pub end-fits : (p .start ≤ withLow (p .end) (endLow p)) × (withLow (p .end) (endLow p) < size)
   end-fits =
       by-test (eqb (p .end / 256) (p .start / 256))
       (λ q. rw q (omega (arith, eqb-true (p .end / 256) (p .start / 256) q, div-add-mod' (p .start) 256)))
       (λ q. rw q (omega (arith, eqb-false (p .end / 256) (p .start / 256) q, div-add-mod' (p .start) 256, mod-lt (p .start) (lit< {m = 0} {n = 256} tt))))
 
 -- FF is no end, or the endLow end is taken and the window is closed by its present cells
-pub takesFF : (a b : Bool) → (not a || b) ≡ false → (a ≡ true) × (b ≡ false)
-takesFF true b h = (refl, h)
-takesFF false b h = absurd (true≢false h)
-
 pub ends-11 : (c : Chain) (m : List ℕ) → sizeHere c ≤ 65535 → c .place .awaited ≡ at·end-low
     → baseOf (c .kinds) (c .place .device) + sizeHere c ≤ length m
     → Ends c m (afterEnd c m) (pick (refusesFF c) bad-end (tailNumber (c .place)))
 ends-11 c m s e i =
     by-test (refusesFF c)
-    (λ q. rw q (ends-end c m 0xff e (or-comm (ltb (withFF (c .place .end)) (c .place .start)) (not (ltb (withFF (c .place .end)) (sizeHere c))) ∙ q)))
+    (λ q. rw q (ends-end c m 0xff e q))
     (λ q.
     let p : Place = c .place in
-    let t = takesFF (ltb (withFF (p .end)) (sizeHere c)) (ltb (withFF (p .end)) (p .start)) q in
-    let f = end-fits p (sizeHere c) (ltb-true (withFF (p .end)) (sizeHere c) (t .0)) (ltb-false (withFF (p .end)) (p .start) (t .1)) in
+    let t : (p .start ≤ withFF (p .end)) × (withFF (p .end) < sizeHere c) = says (search reads) q in
+    let f = end-fits p (sizeHere c) (t .1) (t .0) in
     rw q
     (ends-step c m (tailNumber p) _ (endLow p) _
     (step-11 c m (endLow p) e (rw (le-ltb (withLow (p .end) (endLow p)) (p .start) (f .0), lt-ltb (withLow (p .end) (endLow p)) (sizeHere c) (f .1))))

@@ -1,14 +1,14 @@
 -- The closing call: what it refuses, in document 01's order, what it answers and what output it leaves. Assumes nothing.
 use Prim.Native.Nat.{ℕ}
-use mathlib.Core.Path.{_≡_}
-use mathlib.Core.List.{List, [], _∷_, _++_}
-use lib.ListN.{length, drop}
-use lib.Dec.{eqb, ltb}
+use mathlib.Core.List.{List, [], _∷_}
+use lib.ListN.{length}
+use lib.Dec.{ltb}
 use Rattle.chain.specs.declared.Chain.{Chain}
 use Rattle.chain.specs.declared.Written.{Written}
 use Rattle.chain.specs.Paper.{done, too-short}
-use Rattle.chain.specs.Rules.{pick, Rule, _gives_, firstOf}
+use Rattle.chain.specs.Rules.{Rule, _gives_, firstOf}
 use Rattle.chain.specs.State.{openRules}
+use Rattle.chain.specs.Output.{writtenOf, outputOf, Writes}
 use Rattle.closing.specs.Closing.{closingBytes}
 
 -- 1, 17, 4, then 15 where the output is shorter than the closing bytes
@@ -18,19 +18,13 @@ closingRules c m room = openRules c (length m) ((ltb room (length (closingBytes 
 unfoldable pub writtenNumber : Chain → List ℕ → ℕ → ℕ
 writtenNumber c m room = firstOf (closingRules c m room) done
 
-unfoldable pub closingOf : Chain → List ℕ → ℕ → Written
-closingOf c m room =
-    record {
-      number = writtenNumber c m room;
-      length = pick (eqb (writtenNumber c m room) done) (length (closingBytes c m)) 0;
-    }
+-- the answer, and the output that is left
+abbrev pub closingOf : Chain → List ℕ → ℕ → Written
+closingOf c m room = writtenOf (writtenNumber c m room) (closingBytes c m)
 
--- only the needed front part is written
-unfoldable pub closingOutput : Chain → List ℕ → List ℕ → List ℕ
-closingOutput c m out =
-    pick (eqb (writtenNumber c m (length out)) done) (closingBytes c m ++ drop (length (closingBytes c m)) out) out
+abbrev pub closingOutput : Chain → List ℕ → List ℕ → List ℕ
+closingOutput c m out = outputOf (writtenNumber c m (length out)) (closingBytes c m) out
 
 -- what a reader may hold the call to: r is the answer, out′ the output left; chain and memory are lent to be read alone
-pub record Closing (c : Chain) (m out : List ℕ) (r : Written) (out′ : List ℕ) : Type 0 where
-  pub written : r ≡ closingOf c m (length out)
-  pub output : out′ ≡ closingOutput c m out
+abbrev pub Closing : Chain → List ℕ → List ℕ → Written → List ℕ → Type 0
+Closing c m out r out′ = Writes (writtenNumber c m (length out)) (closingBytes c m) out r out′

@@ -1,16 +1,16 @@
 -- For the contracts of private helpers alone, no promise cites it: bytes written to the front of an output, where there is room. Assumes nothing.
 use Prim.Native.Nat.{ℕ}
-use mathlib.Core.Path.{_≡_}
-use mathlib.Core.List.{List, _++_}
-use lib.ListN.{length, drop}
+use mathlib.Core.List.{List, [], _∷_}
+use lib.ListN.{length}
 use lib.Dec.{ltb}
 use Rattle.chain.specs.declared.Written.{Written}
 use Rattle.chain.specs.Paper.{done, too-short}
-use Rattle.chain.specs.Rules.{pick}
+use Rattle.chain.specs.Rules.{_gives_, firstOf}
+use Rattle.chain.specs.Output.{Writes}
 
-abbrev pub written : ℕ → ℕ → Written
-written n k = record { number = n; length = k }
+-- 15 where the output is shorter than the bytes
+abbrev pub roomNumber : ℕ → List ℕ → ℕ
+roomNumber room bytes = firstOf ((ltb room (length bytes) gives too-short) ∷ []) done
 
-pub record Put (bytes out : List ℕ) (r : Written) (out′ : List ℕ) : Type 0 where
-  pub answer : r ≡ pick (ltb (length out) (length bytes)) (written too-short 0) (written done (length bytes))
-  pub output : out′ ≡ pick (ltb (length out) (length bytes)) out (bytes ++ drop (length bytes) out)
+abbrev pub Put : List ℕ → List ℕ → Written → List ℕ → Type 0
+Put bytes out r out′ = Writes (roomNumber (length out) bytes) bytes out r out′

@@ -6,31 +6,22 @@ use crate::output::part;
 use crate::output::put;
 use crate::output::put_three;
 use chain::Chain;
+use chain::Place;
 use chain::Written;
 use chain::eight::at8;
 use chain::kinds::base_of;
-use chain::kinds::size_of;
+use chain::kinds::size_here;
 use chain::paper::*;
 use chain::state::open_number;
+use chain::window::width;
+use chain::window::with_low;
 ghost use mathlib.Core.Path.{_≡_};
 ghost use mathlib.Core.List.{_++_};
-ghost use Prim.Native.Nat.{_+_, _-_, _/_, _%_, _≤_, _<_};
-ghost use lib.Dec.{eqb};
-ghost use Rattle.chain.specs.Rules.{pick};
+ghost use Prim.Native.Nat.{_≤_};
 ghost use lib.ListN.{length};
-ghost use Rattle.closing.specs.Closing.{window, afterStart, afterEnd, closingBytes};
+ghost use Rattle.closing.specs.Closing.{window, afterStart, endLow, afterEnd, closingBytes};
 ghost use Rattle.closing.specs.Calls.{Closing};
 ghost use Rattle.closing.specs.Put.{Put};
-
-// How many cells a window from first to last has.
-fn width(first: u16, last: u16) -> usize
-    ensures { λ r. ⌜ (r ≡ last - first + 1) × (r ≤ 65536) ⌝ }
-{
-    if last < first {
-        return 1;
-    }
-    (last - first) as usize + 1
-}
 
 // The lead, then the present cells from first to last, then the tail.
 fn put_window(c: Chain, mem: &[u8], lead: &[u8], first: u16, last: u16, out: &mut [u8]) -> Written
@@ -49,20 +40,18 @@ fn put_window(c: Chain, mem: &[u8], lead: &[u8], first: u16, last: u16, out: &mu
 fn put_after_start(c: Chain, out: &mut [u8]) -> Written
     ensures { λ r. ⌜ Put (afterStart c) (now (out .entry)) r (now (out .exit)) ⌝ }
 {
-    let ks = c.kinds;
-    let size = size_of(at8(ks, c.place.device));
-    if c.place.start / 256 * 256 + 255 < size {
+    if with_low(c.place.start, 0xff) < size_here(c) {
         return put(out, &[0xff, 0xff, 0xff]);
     }
     put(out, &[0xff])
 }
 
 // The start's low byte where both have one high byte, else 00.
-fn end_low(start: u16, end: u16) -> u16
-    ensures { λ r. ⌜ (r ≡ pick (eqb (end / 256) (start / 256)) (start % 256) 0x00) × (r < 256) ⌝ }
+fn end_low(p: Place) -> u8
+    ensures { λ r. ⌜ r ≡ endLow p ⌝ }
 {
-    if end / 256 == start / 256 {
-        start % 256
+    if p.end / 256 == p.start / 256 {
+        (p.start % 256) as u8
     } else {
         0x00
     }
@@ -71,15 +60,13 @@ fn end_low(start: u16, end: u16) -> u16
 fn put_after_end(c: Chain, mem: &[u8], out: &mut [u8]) -> Written
     ensures { λ r. ⌜ Put (afterEnd c (now (mem .entry))) (now (out .entry)) r (now (out .exit)) ⌝ }
 {
-    let ks = c.kinds;
-    let size = size_of(at8(ks, c.place.device));
     let p = c.place;
-    let most = p.end / 256 * 256 + 255;
-    if !(most < size) | (most < p.start) {
+    let most = with_low(p.end, 0xff);
+    if (most < p.start) | !(most < size_here(c)) {
         return put(out, &[0xff]);
     }
-    let low = end_low(p.start, p.end);
-    put_window(c, mem, &[low as u8], p.start, p.end / 256 * 256 + low, out)
+    let low = end_low(p);
+    put_window(c, mem, &[low], p.start, with_low(p.end, low), out)
 }
 
 // The row of the awaited byte.

@@ -1,20 +1,14 @@
 // Bytes into the front of a lent output, none where there is no room for all of them.
 use cells::copy;
+use cells::least;
 use chain::Written;
 use chain::paper::*;
 ghost use mathlib.Core.Path.{_≡_};
 ghost use mathlib.Core.List.{_++_};
-ghost use mathlib.Core.Logic.{_⊎_};
 ghost use Prim.Native.Nat.{_+_, _≤_};
 ghost use lib.ListN.{length, take, drop};
 ghost use lib.Seq.{sets};
 ghost use Rattle.closing.specs.Put.{Put};
-
-fn least(a: usize, b: usize) -> usize
-    ensures { λ r. ⌜ (r ≤ a) × (r ≤ b) × ((r ≡ a) ⊎ (r ≡ b)) ⌝ }
-{
-    if a < b { a } else { b }
-}
 
 // n cells from at on, as far as memory goes.
 pub fn part(mem: &[u8], at: usize, n: usize) -> &[u8]

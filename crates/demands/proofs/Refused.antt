@@ -67,7 +67,6 @@ save-refused c m out h =
 
 pub closing-refused : (c : Chain) (m out : List ℕ) → closingOf c m (length out) .number ≢ done
     → (closingOf c m (length out) .length ≡ 0) × (closingOutput c m out ≡ out)
-unfolding closingOf closingOutput
 closing-refused c m out h =
     let e = ne-eqb (writtenNumber c m (length out)) done h in
     (rw e, rw e)

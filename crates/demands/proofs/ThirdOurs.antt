@@ -17,7 +17,7 @@ use Rattle.machine.specs.Calls.{openedPlace, sliceOf}
 use Rattle.machine.proofs.Slices.{slice-runs, fed-number}
 use Rattle.machine.proofs.Keeps.{run-open}
 use Rattle.closing.specs.Closing.{closingBytes}
-use Rattle.closing.specs.Calls.{writtenNumber, closingOf, closingOutput}
+use Rattle.closing.specs.Calls.{writtenNumber}
 use Rattle.closing.proofs.Closes.{closes, room-enough}
 use Rattle.demands.specs.Grammar.{Bytes}
 use Rattle.demands.specs.Loader.{AfterSlice, Idle, Mode}
@@ -35,7 +35,6 @@ use Rattle.demands.proofs.Third.{third}
 
 -- where the call answers 0, what it offers are the closing bytes
 offers : (s : Chain) (m out : List ℕ) → ours .closing s m out .written .number ≡ done → offered (ours .closing s m out) ≡ closingBytes s m
-unfolding closingOf closingOutput
 offers s m out e = rw (eq-eqb (writtenNumber s m (length out)) done e) (take-append-seam (closingBytes s m) (drop (length (closingBytes s m)) out))
 
 shuts : (s : Chain) (m : List ℕ) → Open s m → Shuts s m (closingBytes s m)
@@ -44,7 +43,6 @@ shuts s m o =
     record { ends = λ e. c .over (sym (c .number) ∙ e); late = c .late; cells = c .memory; regs = c .registers }
 
 room : (s : Chain) (m out : List ℕ) → Open s m → sizeHere s + 3 ≤ length out → ours .closing s m out .written .number ≡ done
-unfolding closingOf
 room s m out o e = room-enough s m (length out) (o .kinds) (feed-is-open s (length m) (o .sound)) e
 
 given : Given (ours .closing)
