@@ -1,13 +1,16 @@
 -- The hunt's three ways to answer: no position, an output too short, the bytes written. Assumes nothing.
 use mathlib.Core.Path.{_≡_, sym, ap, ap₂, _∙_}
-use mathlib.Core.List.{List, _++_}
+use mathlib.Core.List.{List}
 use Prim.Native.Nat.{ℕ, _+_, _-_, _*_, _/_, _<_, _≤_}
-use native.Mathlib.Nat.{zero-add}
 use native.Mathlib.Omega.{arith}
 use borrow.Author.Tests.{eq-eqb, ne-eqb, lt-ltb, le-ltb}
-use lib.ListN.{length, drop}
-use lib.Seq.{sets, sets-eq}
+use lib.Dec.{ltb}
+use lib.ListN.{length}
+use lib.Seq.{sets}
+use Rattle.cells.proofs.Over.{sets-front}
 use Rattle.chain.specs.Paper.{done, no-preamble, too-short}
+use Rattle.chain.specs.Rules.{pick}
+use Rattle.chain.specs.Output.{over}
 use Rattle.hunt.specs.Bits.{bytesFrom, wholeFrom}
 use Rattle.hunt.specs.Hunt.{nowhere, foundAt, huntedBytes, huntNumber, huntOf, huntOut, Hunt}
 use Rattle.hunt.proofs.Found.{found-fits}
@@ -22,41 +25,34 @@ pub hunted-count : (s : List ℕ) (p : ℕ) → p ≡ foundAt s → length (hunt
 hunted-count s p e = ap length (hunted-from s p e) ∙ length-bytes s p (length s - (p + 7) / 8)
 
 module _ (s out : List ℕ) where
-  pub no-position : foundAt s ≡ nowhere → Hunt s out (record { number = no-preamble; length = 0 }) out
-  unfolding huntNumber huntOf huntOut
-  no-position e = record { answer = simp (eq-eqb (foundAt s) nowhere e); output = simp (eq-eqb (foundAt s) nowhere e) }
+  refused : (n : ℕ) → huntNumber s (length out) ≡ n → (n ≡ done → ⊥) → Hunt s out (record { number = n; length = 0 }) out
+  unfolding huntOf huntOut
+  refused n e z = record { answer = rw (e, ne-eqb n done z); output = rw (e, ne-eqb n done z) }
 
-  pub no-room : foundAt s < nowhere → length out < length (huntedBytes s) → Hunt s out (record { number = too-short; length = 0 }) out
-  unfolding huntNumber huntOf huntOut
-  no-room h l =
-      record {
-        answer = simp (ne-eqb (foundAt s) nowhere (λ e. omega arith), lt-ltb (length out) (length (huntedBytes s)) l);
-        output = simp (ne-eqb (foundAt s) nowhere (λ e. omega arith), lt-ltb (length out) (length (huntedBytes s)) l);
-      }
+  number-found : foundAt s < nowhere → huntNumber s (length out) ≡ pick (ltb (length out) (length (huntedBytes s))) too-short done
+  unfolding huntNumber
+  number-found h = rw (ne-eqb (foundAt s) nowhere (λ e. omega arith))
 
   pub written : foundAt s < nowhere → length (huntedBytes s) ≤ length out
-      → Hunt s out (record { number = done; length = length (huntedBytes s) }) (huntedBytes s ++ drop (length (huntedBytes s)) out)
-  unfolding huntNumber huntOf huntOut
+      → Hunt s out (record { number = done; length = length (huntedBytes s) }) (over (huntedBytes s) out)
+  unfolding huntOf huntOut
   written h l =
-      record {
-        answer = simp (ne-eqb (foundAt s) nowhere (λ e. omega arith), le-ltb (length out) (length (huntedBytes s)) l);
-        output = simp (ne-eqb (foundAt s) nowhere (λ e. omega arith), le-ltb (length out) (length (huntedBytes s)) l);
-      }
-
--- a front part written by stores one after another
-front : (vs out : List ℕ) → length vs ≤ length out → sets out 0 vs ≡ vs ++ drop (length vs) out
-front vs out h = sets-eq vs out 0 (omega arith) ∙ simp zero-add
+      let n : huntNumber s (length out) ≡ done = number-found h ∙ rw (le-ltb (length out) (length (huntedBytes s)) l) in
+      record { answer = rw n; output = rw n }
 
 -- what the code answers and leaves, from its own position and count
 pub hunt-none : (s out : List ℕ) (p : ℕ) → p ≡ foundAt s → nowhere ≤ p → p ≤ nowhere → Hunt s out (record { number = no-preamble; length = 0 }) out
-hunt-none s out p e g l = no-position s out (omega arith)
+unfolding huntNumber
+hunt-none s out p e g l = refused s out no-preamble (rw (eq-eqb (foundAt s) nowhere (omega arith))) (omega arith)
 
 pub found-in : (s : List ℕ) (p : ℕ) → p ≡ foundAt s → p < nowhere → p + 8 ≤ 8 * length s
 found-in s p e h = omega (arith, found-fits s (omega arith))
 
 module _ (s out : List ℕ) (p : ℕ) (e : p ≡ foundAt s) (h : p < nowhere) where
   pub hunt-short : length out < length s - (p + 7) / 8 → Hunt s out (record { number = too-short; length = 0 }) out
-  hunt-short l = no-room s out (omega arith) (omega (arith, hunted-count s p e))
+  hunt-short l =
+      let short : length out < length (huntedBytes s) = omega (arith, hunted-count s p e) in
+      refused s out too-short (number-found s out (omega arith) ∙ rw (lt-ltb (length out) (length (huntedBytes s)) short)) (omega arith)
 
   pub hunt-written : (out′ : List ℕ) → length s - (p + 7) / 8 ≤ length out → out′ ≡ sets out 0 (bytesFrom s p (length s - (p + 7) / 8))
       → Hunt s out (record { number = done; length = length s - (p + 7) / 8 }) out′
@@ -65,5 +61,5 @@ module _ (s out : List ℕ) (p : ℕ) (e : p ≡ foundAt s) (h : p < nowhere) wh
       let r = written s out (omega arith) (omega arith) in
       record {
         answer = ap (λ (k : ℕ). record { number = done; length = k }) n ∙ r .answer;
-        output = w ∙ ap (sets out 0) (sym (hunted-from s p e)) ∙ front (huntedBytes s) out (omega arith) ∙ r .output;
+        output = w ∙ ap (sets out 0) (sym (hunted-from s p e)) ∙ sets-front (huntedBytes s) out (omega arith) ∙ r .output;
       }

@@ -7,7 +7,7 @@ use native.Mathlib.Omega.{arith}
 use lib.ListN.{length, getD, set, take, drop, length-drop}
 use lib.Seq.{sets, drop-cons, take-all}
 use Rattle.hunt.specs.Bits.{byteAt, bytesFrom, wholeFrom}
-use Rattle.hunt.proofs.Windows.{byte-whole, byte-lt}
+use Rattle.hunt.proofs.Windows.{byte-whole}
 
 pub length-bytes : (s : List ℕ) (p n : ℕ) → length (bytesFrom s p n) ≡ n
 unfolding bytesFrom
@@ -31,13 +31,6 @@ unfolding bytesFrom
 bytes-done s out p n i h =
     let none : n - i ≡ 0 = omega arith in
     rw none
-
--- every element is a byte
-pub bytes-lt : (s : List ℕ) (n p i : ℕ) → getD (bytesFrom s p n) i 0 < 2 ^ 8
-unfolding bytesFrom
-bytes-lt s zero p i = omega arith
-bytes-lt s (suc n) p zero = byte-lt s p
-bytes-lt s (suc n) p (suc i) = bytes-lt s n (p + 8) i
 
 -- what the code counts
 pub whole-is : (s : List ℕ) (p : ℕ) → length s - (p + 7) / 8 ≡ wholeFrom s p

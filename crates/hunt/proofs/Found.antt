@@ -6,11 +6,12 @@ use mathlib.Core.Logic.{⊎-elim}
 use Prim.Native.Nat.{ℕ, zero, suc, _+_, _*_, _<_, _≤_}
 use native.Mathlib.Nat.{eq-or-lt-of-le}
 use native.Mathlib.Omega.{arith}
-use borrow.Author.Tests.{le-leb, lt-leb, leb-true, eqb-true}
+use borrow.Author.Tests.{le-leb, lt-leb}
 use lib.Dec.{leb, eqb}
 use lib.ListN.{length}
 use Rattle.chain.specs.Paper.{preamble}
 use Rattle.chain.specs.Rules.{pick}
+use Rattle.chain.proofs.Means.{says, reads}
 use Rattle.hunt.specs.Bits.{byteAt}
 use Rattle.hunt.specs.Hunt.{beginsAt, firstFrom, nowhere, foundAt}
 use Rattle.hunt.proofs.Windows.{lt-or-ge}
@@ -31,16 +32,11 @@ begins-not s p e = ap (λ (b : Bool). leb (p + 8) (8 * length s) && b) e ∙ and
 not-both : {P : Type 0} (b : Bool) → b ≡ true → b ≡ false → P
 not-both b t f = absurd (let z : _≡_ {A = ℕ} 0 1 = cc in omega arith)
 
-both : (a b : Bool) → a && b ≡ true → (a ≡ true) × (b ≡ true)
-both true b e = (refl, e)
-both false b e = not-both false e refl
-
--- where it begins, eight bits stand and make the preamble
-pub begins-is : (s : List ℕ) (p : ℕ) → beginsAt s p ≡ true → (p + 8 ≤ 8 * length s) × (byteAt s p ≡ preamble)
+-- where it begins, eight bits stand
+begins-fits : (s : List ℕ) (p : ℕ) → beginsAt s p ≡ true → p + 8 ≤ 8 * length s
 unfolding beginsAt
-begins-is s p e =
-    let t = both (leb (p + 8) (8 * length s)) (eqb (byteAt s p) preamble) e in
-    (leb-true (p + 8) (8 * length s) (t .0), eqb-true (byteAt s p) preamble (t .1))
+begins-fits s p e =
+    let t : (p + 8 ≤ 8 * length s) × (byteAt s p ≡ preamble) = says (search reads) e in t .0
 
 -- one position looked at
 pub first-hit : (s : List ℕ) (n p : ℕ) → beginsAt s p ≡ true → firstFrom s (suc n) p ≡ p
@@ -100,14 +96,6 @@ module _ (s : List ℕ) where
   unfolding foundAt
   found-before q h = first-before nowhere 0 q (omega arith) h
 
-  -- these two fix the position
-  pub found-is : (p : ℕ) → p < nowhere → beginsAt s p ≡ true → ((q : ℕ) → q < p → beginsAt s q ≡ false) → foundAt s ≡ p
-  found-is p h e before =
-      ⊎-elim
-      (λ l. not-both (beginsAt s (foundAt s)) (found-begins (omega arith)) (before (foundAt s) l))
-      (λ g. ⊎-elim (λ l. not-both (beginsAt s p) e (found-before p l)) (λ k. omega arith) (lt-or-ge p (foundAt s)))
-      (lt-or-ge (foundAt s) p)
-
   pub found-none : ((q : ℕ) → q < nowhere → beginsAt s q ≡ false) → foundAt s ≡ nowhere
   found-none none =
       ⊎-elim
@@ -115,9 +103,6 @@ module _ (s : List ℕ) where
       (λ g. omega (arith, found-le))
       (lt-or-ge (foundAt s) nowhere)
 
-  -- a position that is found has its eight bits in the slice, and they make the preamble
+  -- a position that is found has its eight bits in the slice
   pub found-fits : foundAt s < nowhere → foundAt s + 8 ≤ 8 * length s
-  found-fits h = begins-is s (foundAt s) (found-begins h) .0
-
-  pub found-byte : foundAt s < nowhere → byteAt s (foundAt s) ≡ preamble
-  found-byte h = begins-is s (foundAt s) (found-begins h) .1
+  found-fits h = begins-fits s (foundAt s) (found-begins h)

@@ -3,7 +3,7 @@ use mathlib.Core.Path.{_≡_, sym, ap, ap₂, subst, _∙_}
 use mathlib.Core.Logic.{_⊎_, inl, inr, ⊎-elim}
 use mathlib.Core.List.{List}
 use Prim.Native.Nat.{ℕ, zero, suc, _+_, _-_, _*_, _/_, _%_, _^_, _<_, _≤_, zero-le, suc-le-suc}
-use native.Mathlib.Nat.{add-zero, add-comm, add-assoc, mul-assoc, mul-comm, mod-one, div-one, mod-lt, zero-lt-suc, add-mul-div-right}
+use native.Mathlib.Nat.{add-zero, add-comm, add-assoc, mul-assoc, mul-comm, mod-one, div-one, zero-lt-suc, add-mul-div-right}
 use native.Mathlib.Numerals.{one-add}
 use native.Mathlib.Omega.{arith}
 use lib.ListN.{getD}
@@ -94,18 +94,6 @@ pub byte-whole-split : (s : List ℕ) (p : ℕ) → getD s (p / 8) 0 < 2 ^ 8 →
 byte-whole-split s p h e =
     let at : p ≡ 8 * (p / 8) = omega (arith, place-split p) in
     ap (byteAt s) at ∙ byte-whole s (p / 8) h
-
--- n bits make a number below 2 ^ n
-bits-lt : (s : List ℕ) (n p : ℕ) → bitsFrom s p n < 2 ^ n
-unfolding bitsFrom bitAt
-bits-lt s zero p = pow-pos 0
-bits-lt s (suc n) p =
-    subst (λ (w : ℕ). bitAt s p + 2 * bitsFrom s (p + 1) n < w) (sym (ap (λ (m : ℕ). 2 ^ m) (sym (one-add n)) ∙ pow-add 2 1 n))
-    (omega (arith, bits-lt s n (p + 1), mod-lt (getD s (p / 8) 0 / 2 ^ (p % 8)) (zero-lt-suc 1)))
-
-pub byte-lt : (s : List ℕ) (p : ℕ) → byteAt s p < 2 ^ 8
-unfolding byteAt
-byte-lt s p = bits-lt s 8 p
 
 -- a << j at a word of k + j bits keeps the k low bits of a
 shl-drop : (a k j : ℕ) → a * 2 ^ j % 2 ^ (k + j) ≡ a % 2 ^ k * 2 ^ j

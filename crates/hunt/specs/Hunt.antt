@@ -2,11 +2,12 @@
 use Prim.Native.Nat.{ℕ, zero, suc, _+_, _*_}
 use mathlib.Core.Bool.{Bool, _&&_}
 use mathlib.Core.Path.{_≡_}
-use mathlib.Core.List.{List, [], _∷_, _++_}
-use lib.ListN.{length, drop}
+use mathlib.Core.List.{List, [], _∷_}
+use lib.ListN.{length}
 use lib.Dec.{eqb, ltb, leb}
 use Rattle.chain.specs.Paper.{preamble, done, no-preamble, too-short}
 use Rattle.chain.specs.Rules.{pick, Rule, _gives_, firstOf}
+use Rattle.chain.specs.Output.{lengthOf, outputOf}
 use Rattle.hunt.specs.declared.Hunted.{Hunted}
 use Rattle.hunt.specs.Bits.{byteAt, bytesFrom, wholeFrom}
 
@@ -41,16 +42,16 @@ huntRules s room =
 unfoldable pub huntNumber : List ℕ → ℕ → ℕ
 huntNumber s room = firstOf (huntRules s room) done
 
+-- the answer, and the output that is left
 unfoldable pub huntOf : List ℕ → ℕ → Hunted
 huntOf s room =
     record {
       number = huntNumber s room;
-      length = pick (eqb (huntNumber s room) done) (length (huntedBytes s)) 0;
+      length = lengthOf (huntNumber s room) (huntedBytes s);
     }
 
--- only the front part is written, and nothing where the number is not 0
 unfoldable pub huntOut : List ℕ → List ℕ → List ℕ
-huntOut s out = pick (eqb (huntNumber s (length out)) done) (huntedBytes s ++ drop (length (huntedBytes s)) out) out
+huntOut s out = outputOf (huntNumber s (length out)) (huntedBytes s) out
 
 -- what a reader may hold the hunt to: r is the answer, out′ the output left
 pub record Hunt (s out : List ℕ) (r : Hunted) (out′ : List ℕ) : Type 0 where

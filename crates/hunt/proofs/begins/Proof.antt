@@ -11,21 +11,12 @@ use Rattle.hunt.proofs.Windows.{byte-split, byte-whole-split}
 use Rattle.hunt.proofs.Found.{begins-in, begins-out}
 use Rattle.hunt.proofs.begins.Statement.{statement}
 use Rattle.hunt.proofs.begins.Tie as tie
-use Rattle.hunt.proofs.begins.Reads as reads
-use Rattle.hunt.proofs.begins.Lts as lts
-use Rattle.hunt.proofs.joined.Reads as joined-reads
 
 cast-k : tie.Need-cast-k
 cast-k c = fits-mask (c .before .args .p) 3 tt
 
-add-if1 : tie.Need-add-if1
-add-if1 c = search needs
-
 returns : tie.Need-returns
 returns c = sym (begins-out (c .before .before .args .s .now) (c .before .before .args .p) (omega arith))
-
-shared-slice-read-result : tie.Need-shared-slice-read-result
-shared-slice-read-result c = search needs
 
 returns-2 : tie.Need-returns-2
 returns-2 c =
@@ -34,12 +25,6 @@ returns-2 c =
     let p = start .args .p in
     let byte = byte-whole-split s p (c .before .before .before .shared-slice-known .given (p / 8) .fits) (c .before .if2 .taken) in
     sym (begins-in s p (omega (arith, and-mask p 3)) ∙ ap (λ (x : ℕ). eqb x preamble) byte)
-
-shared-slice-read-joined : tie.Need-shared-slice-read-joined
-shared-slice-read-joined c = search needs
-
-add-joined : tie.Need-add-joined
-add-joined c = search needs
 
 shared-slice-read-joined-2 : tie.Need-shared-slice-read-joined-2
 shared-slice-read-joined-2 c = omega (arith, and-mask (c .before .before .before .before .before .args .p) 3)
@@ -60,15 +45,5 @@ returns-3 c =
 
 pub begins-spec : {M : Type 1} → statement M
 begins-spec =
-    tie.close
-    (tie.spec
-    cast-k
-    add-if1
-    returns
-    shared-slice-read-result
-    returns-2
-    shared-slice-read-joined
-    add-joined
-    shared-slice-read-joined-2
-    joined-requires
-    returns-3)
+    tie.close (tie.spec cast-k (search needs) returns (search needs) returns-2 (search needs) (search needs)
+    shared-slice-read-joined-2 joined-requires returns-3)

@@ -12,28 +12,9 @@ use Rattle.hunt.proofs.Windows.{place-split}
 use Rattle.hunt.proofs.Bytes.{bytes-part}
 use Rattle.hunt.proofs.fill.Statement.{statement}
 use Rattle.hunt.proofs.fill.Tie as tie
-use Rattle.hunt.proofs.fill.Reads as reads
-use Rattle.hunt.proofs.fill.Lts as lts
-use Rattle.cells.proofs.copy.Reads as copy-reads
-use Rattle.hunt.proofs.shift.Reads as shift-reads
 
 cast-k : tie.Need-cast-k
 cast-k c = fits-mask (c .before .before .args .p) 3 tt
-
-sub-copy : tie.Need-sub-copy
-sub-copy c = search needs
-
-part-copy-start : tie.Need-part-copy-start
-part-copy-start c = search needs
-
-part-copy-end : tie.Need-part-copy-end
-part-copy-end c = search needs
-
-copy-requires : tie.Need-copy-requires
-copy-requires c κs = search needs
-
-same-length : tie.Need-same-length
-same-length c = search needs
 
 returns : tie.Need-returns
 returns c =
@@ -54,9 +35,6 @@ shift-requires c κs =
     let m : bitAnd p 7 < 8 = mask-lt p 3 in
     (omega arith, omega arith, omega arith, omega arith)
 
-same-length-2 : tie.Need-same-length-2
-same-length-2 c = search needs
-
 returns-2 : tie.Need-returns-2
 returns-2 c =
     let a = c .before .before .before .before .before .before .before .args in
@@ -65,15 +43,5 @@ returns-2 c =
 
 pub fill-spec : {M : Type 1} → statement M
 fill-spec =
-    tie.close
-    (tie.spec
-    cast-k
-    sub-copy
-    part-copy-start
-    part-copy-end
-    copy-requires
-    same-length
-    returns
-    shift-requires
-    same-length-2
-    returns-2)
+    tie.close (tie.spec cast-k (search needs) (search needs) (search needs) (search needs) (search needs)
+    returns shift-requires (search needs) returns-2)

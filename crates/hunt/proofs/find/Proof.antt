@@ -6,9 +6,6 @@ use Rattle.hunt.specs.Hunt.{firstFrom, nowhere, foundAt}
 use Rattle.hunt.proofs.Found.{first-hit, first-miss}
 use Rattle.hunt.proofs.find.Statement.{statement}
 use Rattle.hunt.proofs.find.Tie as tie
-use Rattle.hunt.proofs.find.Reads as reads
-use Rattle.hunt.proofs.find.Lts as lts
-use Rattle.hunt.proofs.begins.Reads as begins-reads
 
 abbrev Inv-loop : tie.InvT-loop
 Inv-loop s p₀ p = (p ≤ nowhere) × (foundAt s ≡ firstFrom s (nowhere - p) p)
@@ -20,9 +17,6 @@ loop-holds : tie.Need-loop-holds Inv-loop μ-loop
 unfolding foundAt
 loop-holds c = (omega arith, refl)
 
-begins-requires : tie.Need-begins-requires Inv-loop μ-loop
-begins-requires c κs = omega arith
-
 returns : tie.Need-returns Inv-loop μ-loop
 returns c =
     let s = c .before .before .before .before .before .args .s .now in
@@ -31,12 +25,6 @@ returns c =
     let more : nowhere - p ≡ suc (nowhere - (p + 1)) = omega arith in
     let hit = first-hit s (nowhere - (p + 1)) p (sym (c .before .begins .ensures) ∙ c .if1 .taken) in
     (sym (l .inv .1 ∙ ap (λ (n : ℕ). firstFrom s n p) more ∙ hit), omega arith)
-
-add-p : tie.Need-add-p Inv-loop μ-loop
-add-p c = omega arith
-
-loop-less : tie.Need-loop-less Inv-loop μ-loop
-loop-less c = omega arith
 
 loop-again : tie.Need-loop-again Inv-loop μ-loop
 loop-again c =
@@ -58,14 +46,5 @@ returns-2 c =
 
 pub find-spec : {M : Type 1} → statement M
 find-spec =
-    tie.close
-    (tie.spec
-    Inv-loop
-    μ-loop
-    loop-holds
-    begins-requires
-    returns
-    add-p
-    loop-less
-    loop-again
-    returns-2)
+    tie.close (tie.spec Inv-loop μ-loop loop-holds (omega arith) returns (omega arith) (omega arith)
+    loop-again returns-2)

@@ -10,9 +10,6 @@ use Rattle.hunt.proofs.Windows.{byte-pair}
 use Rattle.hunt.proofs.Bytes.{bytes-turn, bytes-done}
 use Rattle.hunt.proofs.shift.Statement.{statement}
 use Rattle.hunt.proofs.shift.Tie as tie
-use Rattle.hunt.proofs.shift.Reads as reads
-use Rattle.hunt.proofs.shift.Lts as lts
-use Rattle.hunt.proofs.joined.Reads as joined-reads
 
 abbrev Inv-loop : tie.InvT-loop
 Inv-loop s q k n out₀ i₀ out i =
@@ -29,33 +26,6 @@ loop-holds c =
     let at : 8 * (a .q + 0) + a .k ≡ 8 * a .q + a .k = omega arith in
     let all : a .n - 0 ≡ a .n = omega arith in
     (omega arith, refl, rw (at, all))
-
-add-joined : tie.Need-add-joined Inv-loop μ-loop
-add-joined c = omega arith
-
-shared-slice-read-joined : tie.Need-shared-slice-read-joined Inv-loop μ-loop
-shared-slice-read-joined c = omega arith
-
-add-joined-2 : tie.Need-add-joined-2 Inv-loop μ-loop
-add-joined-2 c = omega arith
-
-add-joined-3 : tie.Need-add-joined-3 Inv-loop μ-loop
-add-joined-3 c = omega arith
-
-shared-slice-read-joined-2 : tie.Need-shared-slice-read-joined-2 Inv-loop μ-loop
-shared-slice-read-joined-2 c = omega arith
-
-joined-requires : tie.Need-joined-requires Inv-loop μ-loop
-joined-requires c κs = search needs
-
-slice-write-out : tie.Need-slice-write-out Inv-loop μ-loop
-slice-write-out c = omega arith
-
-add-i : tie.Need-add-i Inv-loop μ-loop
-add-i c = omega arith
-
-loop-less : tie.Need-loop-less Inv-loop μ-loop
-loop-less c = omega arith
 
 loop-again : tie.Need-loop-again Inv-loop μ-loop
 loop-again c =
@@ -82,20 +52,5 @@ returns c =
 
 pub shift-spec : {M : Type 1} → statement M
 shift-spec =
-    tie.close
-    (tie.spec
-    Inv-loop
-    μ-loop
-    loop-holds
-    add-joined
-    shared-slice-read-joined
-    add-joined-2
-    add-joined-3
-    shared-slice-read-joined-2
-    joined-requires
-    slice-write-out
-    add-i
-    loop-less
-    loop-again
-    same-length
-    returns)
+    tie.close (tie.spec Inv-loop μ-loop loop-holds (omega arith) (omega arith) (omega arith) (omega arith)
+    (omega arith) (search needs) (omega arith) (omega arith) (omega arith) loop-again same-length returns)
