@@ -1,28 +1,29 @@
 -- What number 0 of a stream and of a listing tells, and that the bytes taken fit in 32 bits. Assumes nothing.
 use Prim.Native.Nat.{ℕ, _+_, _^_, _≤_, _<_}
-use mathlib.Core.Bool.{Bool, true, false, not, _&&_, _||_, and-false}
+use mathlib.Core.Bool.{Bool, true, false, not, _&&_, and-false}
 use mathlib.Core.Path.{_≡_, sym, ap, _∙_}
 use mathlib.Core.List.{List}
 use native.Mathlib.Omega.{arith}
-use borrow.Author.Tests.{lt-ltb, ltb-true, ltb-false, leb-true, eqb-true, eqb-false}
+use borrow.Author.Tests.{lt-ltb, ltb-true, ltb-false, leb-true, eqb-true, eqb-false, not-true}
 use lib.Dec.{eqb, ltb, leb}
 use lib.ListN.{length, getD}
 use Rattle.chain.proofs.ByCases.{by-test}
+use Rattle.chain.proofs.Means.{says, reads}
 use Rattle.chain.specs.Paper.{preamble, postamble, first-mode, two-preambles, done, bad-chain, bad-mode, no-preamble, bad-check-byte, ends-here, last-device, too-short, more, B2}
 use Rattle.chain.specs.Rules.{pick, from}
 use Rattle.lister.specs.declared.stream.Stop.{Stop}
 use Rattle.lister.specs.Stops.{stop, _then_}
 use Rattle.lister.specs.Windows.{windowsStop}
 use Rattle.lister.specs.Listing.{preambleAt, controlAt, countAt, headStop, checkStop, streamStop, anyShorter, listStop}
-use Rattle.lister.proofs.Windows.{or-no, windows-reach}
+use Rattle.lister.proofs.Windows.{windows-reach}
 
 -- ---- rows
 
 module _ (holds : Bool) (n t : ℕ) (e : Stop) where
   -- number 0 passes a row that gives another
-  pub passes : (n ≡ done → ⊥) → pick holds (stop n t) e .number ≡ done → (holds ≡ false) × (pick holds (stop n t) e ≡ e) × (e .number ≡ done)
+  pub passes : (holds ≡ true → n ≡ done → ⊥) → pick holds (stop n t) e .number ≡ done → (holds ≡ false) × (pick holds (stop n t) e ≡ e) × (e .number ≡ done)
   passes z h =
-      by-test holds (λ y. absurd (z (rw y at h))) (λ y. (y, rw y, rw y at h))
+      by-test holds (λ y. absurd (z y (rw y at h))) (λ y. (y, rw y, rw y at h))
 
   pub row-below : (k : ℕ) → (holds ≡ true → t ≤ k) → e .taken ≤ k → pick holds (stop n t) e .taken ≤ k
   row-below k a b = by-test holds (λ y. rw y (a y)) (λ y. rw y b)
@@ -81,9 +82,9 @@ module _ (mode : ℕ) (s : List ℕ) where
   pub head-done : headStop mode s .number ≡ done → (headStop mode s ≡ stop done (preambleAt mode + 6)) × (preambleAt mode + 6 ≤ length s)
   unfolding headStop
   head-done h =
-      let a = passes (ltb 0 (length s) && not (eqb (getD s 0 0) preamble)) no-preamble 1 _ (λ z. omega (arith, z)) h in
-      let b = passes (eqb mode two-preambles && ltb 1 (length s) && not (eqb (getD s 1 0) preamble)) no-preamble 2 _ (λ z. omega (arith, z)) (a .2) in
-      let d = passes (ltb (length s) (preambleAt mode + 6)) more (length s) (stop done (preambleAt mode + 6)) (λ z. omega (arith, z)) (b .2) in
+      let a = passes (ltb 0 (length s) && not (eqb (getD s 0 0) preamble)) no-preamble 1 _ (λ y z. omega (arith, z)) h in
+      let b = passes (eqb mode two-preambles && ltb 1 (length s) && not (eqb (getD s 1 0) preamble)) no-preamble 2 _ (λ y z. omega (arith, z)) (a .2) in
+      let d = passes (ltb (length s) (preambleAt mode + 6)) more (length s) (stop done (preambleAt mode + 6)) (λ y z. omega (arith, z)) (b .2) in
       (a .1 ∙ b .1 ∙ d .1, ltb-false (length s) (preambleAt mode + 6) (d .0))
 
   head-below : headStop mode s .taken ≤ preambleAt mode + 6
@@ -143,24 +144,18 @@ module _ (size mode : ℕ) (s : List ℕ) (a b c : ℕ) where
   list-done h =
       let e : Stop = streamStop size mode s in
       let n : ℕ = countAt s (preambleAt mode) in
-      let x = passes (eqb size 0) bad-chain 0 _ (λ z. omega (arith, z)) h in
-      let y = passes (not (from first-mode two-preambles mode)) bad-mode 0 _ (λ z. omega (arith, z)) (x .2) in
-      let r : (not (eqb (e .number) done) ≡ false) × _ = at-own (e .number) (e .taken) _ (y .2) in
-      let t = passes (anyShorter a b c n) too-short (e .taken) e (λ z. omega (arith, z)) (r .1 .1) in
-      let u = or-no (ltb a n || ltb b n) (ltb c n) (t .0) in
-      let v = or-no (ltb a n) (ltb b n) (u .0) in
+      let x = passes (eqb size 0) bad-chain 0 _ (λ y z. omega (arith, z)) h in
+      let y = passes (not (from first-mode two-preambles mode)) bad-mode 0 _ (λ y z. omega (arith, z)) (x .2) in
+      let r = passes (not (eqb (e .number) done)) (e .number) (e .taken) _ (λ q z. eqb-false (e .number) done (not-true (eqb (e .number) done) q) z) (y .2) in
+      let t = passes (anyShorter a b c n) too-short (e .taken) e (λ y z. omega (arith, z)) (r .2) in
+      let v : ((n ≤ a) × (n ≤ b)) × (n ≤ c) = says (search reads) (t .0) in
       record {
         read = stream-done size mode s (t .2);
-        stream = x .1 ∙ y .1 ∙ r .1 .0 ∙ t .1;
-        starts-fit = ltb-false a n (v .0);
-        ends-fit = ltb-false b n (v .1);
-        offsets-fit = ltb-false c n (u .1);
+        stream = x .1 ∙ y .1 ∙ r .1 ∙ t .1;
+        starts-fit = v .0 .0;
+        ends-fit = v .0 .1;
+        offsets-fit = v .1;
       }
-    where
-      at-own : (n t : ℕ) (e : Stop) → pick (not (eqb n done)) (stop n t) e .number ≡ done
-          → (not (eqb n done) ≡ false) × ((pick (not (eqb n done)) (stop n t) e ≡ e) × (e .number ≡ done))
-      at-own n t e h =
-          by-test (eqb n done) (λ y. (rw y, (rw y, rw y at h))) (λ y. absurd (eqb-false n done y (rw y at h)))
 
   pub list-below : size ≤ 65535 → listStop size mode s a b c .taken < 2 ^ 32
   unfolding listStop

@@ -1,7 +1,7 @@
 -- Windows as the machine takes them, in a write of any chain: the run stops where the reading stops, or goes on after it. Assumes nothing.
 use Prim.Native.Nat.{ℕ, zero, suc, _+_, _-_, _*_, _/_, _%_, _^_, _≤_, _<_}
 use mathlib.Core.Bool.{false, and-false}
-use mathlib.Core.Path.{_≡_, refl, sym, ap, _∙_}
+use mathlib.Core.Path.{_≡_, refl, ap, _∙_}
 use mathlib.Core.List.{List, [], _∷_}
 use native.Mathlib.Omega.{arith}
 use native.Mathlib.Nat.{mod-add-mod, mul-div-left}
@@ -15,6 +15,7 @@ use Rattle.chain.specs.Paper.{at·null, at·start, at·start-low, at·end, at·
 use Rattle.chain.specs.Rules.{pick}
 use Rattle.chain.specs.Set.{with·running, with·check, with·awaited, with·left, with·start, with·end, with·next, with·taken, with·mismatches, with·place}
 use Rattle.chain.specs.Kinds.{baseOf, sizeHere}
+use Rattle.chain.specs.Window.{widthOf}
 use Rattle.machine.specs.Byte.{numberOf, advanceOf, passedOf}
 use Rattle.machine.specs.Run.{Run, run, addressOf, memoryOf, registersOf, missedOf, ended, stepOf, runOf}
 use Rattle.machine.specs.Block.{missesOf, laidOf}
@@ -24,7 +25,7 @@ use Rattle.lister.specs.declared.stream.Stop.{Stop}
 use Rattle.lister.specs.declared.window.ReadWindow.{ReadWindow}
 use Rattle.lister.specs.Stops.{stop, _then_}
 use Rattle.lister.specs.Windows.{startAt, endAt, nextAt, windowStop, readWindowOf, windowsStop, windowsOf}
-use Rattle.lister.proofs.Windows.{ways, number-is, next-is, is-whole, whole-next}
+use Rattle.lister.proofs.Windows.{ways, is-whole, whole-next}
 
 -- ---- any run
 
@@ -174,11 +175,11 @@ module _ (c : Chain) (size : ℕ) (sz : sizeHere c ≡ size) (m s : List ℕ) (n
     unfolding w shape passedOf missesOf
     block-within h i = rw (le-leb (startAt s at + length bs) (endAt s at) h, mod-add-mod (at + 5) (2 ^ 32) (length bs))
 
-  block-after : (bs : List ℕ) → length bs ≡ endAt s at - startAt s at + 1 → startAt s at ≤ endAt s at → (i : ℕ)
+  block-after : (bs : List ℕ) → length bs ≡ widthOf (startAt s at) (endAt s at) → startAt s at ≤ endAt s at → (i : ℕ)
       → blockOf (w 5) m i bs ≡ waits c n (nextAt s at)
   unfolding w shape passedOf missesOf waits
   block-after bs e h i =
-      rw (e, lt-leb (startAt s at + (endAt s at - startAt s at + 1)) (endAt s at) (omega arith), mod-add-mod (at + 5) (2 ^ 32) (endAt s at - startAt s at + 1))
+      rw (e, lt-leb (startAt s at + (widthOf (startAt s at) (endAt s at))) (endAt s at) (omega arith), mod-add-mod (at + 5) (2 ^ 32) (widthOf (startAt s at) (endAt s at)))
       (last n)
     where
       last : (n : ℕ)
@@ -192,13 +193,13 @@ module _ (c : Chain) (size : ℕ) (sz : sizeHere c ≡ size) (m s : List ℕ) (n
   -- the run after the window, its data stored
   abbrev after : Run
   after =
-      runOf (run (waits c n (nextAt s at)) (sets m (baseOf (c .kinds) (c .place .device) + startAt s at) (take (endAt s at - startAt s at + 1) (drop (at + 5) s))) more)
+      runOf (run (waits c n (nextAt s at)) (sets m (baseOf (c .kinds) (c .place .device) + startAt s at) (take (widthOf (startAt s at) (endAt s at)) (drop (at + 5) s))) more)
       (drop (nextAt s at) s)
 
   data-on : startAt s at ≤ endAt s at → nextAt s at ≤ length s → runOf (run (w 5) m more) (drop (at + 5) s) ≡ after
   unfolding w shape laidOf addressOf
   data-on o l =
-      let k : ℕ = endAt s at - startAt s at + 1 in
+      let k : ℕ = widthOf (startAt s at) (endAt s at) in
       let z : at + 5 + k - (at + 5) ≡ k = omega arith in
       let e : length (take k (drop (at + 5) s)) ≡ k = length-take-le k (drop (at + 5) s) (omega (arith, length-drop (at + 5) s)) in
       run-part (w 5) m s (at + 5) k _ (rw z (block (take k (drop (at + 5) s)) (w 5) m refl (omega arith) (omega arith)))
@@ -252,27 +253,16 @@ module _ (c : Chain) (size : ℕ) (sz : sizeHere c ≡ size) (m s : List ℕ) (n
 -- ---- the same, as it is read
 
 -- memory with the data bytes of a window stored, and of several, in order; base is where the device's memory begins
-abbrev pub storedOf : List ℕ → ℕ → List ℕ → ReadWindow → List ℕ
-storedOf s base m r = sets m (base + r .start) (take (r .end - r .start + 1) (drop (r .first) s))
+abbrev storedOf : List ℕ → ℕ → List ℕ → ReadWindow → List ℕ
+storedOf s base m r = sets m (base + r .start) (take (widthOf (r .start) (r .end)) (drop (r .first) s))
 
 abbrev pub storedAll : List ℕ → ℕ → List ℕ → List ReadWindow → List ℕ
 storedAll s base m [] = m
 storedAll s base m (r ∷ rs) = storedAll s base (storedOf s base m r) rs
 
 module _ (c : Chain) (size : ℕ) (sz : sizeHere c ≡ size) (s : List ℕ) where
-  abbrev pub runFrom : List ℕ → ℕ → ℕ → Run
+  abbrev runFrom : List ℕ → ℕ → ℕ → Run
   runFrom m n at = runOf (run (waits c n at) m more) (drop at s)
-
-  -- one window as the leaf reads it
-  pub window-as-machine : (m : List ℕ) (n at : ℕ) → at ≤ length s
-      → Takes (runFrom m (suc n) at) (stop (readWindowOf size s at .number) (readWindowOf size s at .next))
-      (runFrom (storedOf s (baseOf (c .kinds) (c .place .device)) m (readWindowOf size s at)) n (readWindowOf size s at .next))
-  window-as-machine m n at g =
-      let t = window-takes c size sz m s n at g in
-      record {
-        goes-on = λ z. let q = is-whole size s at (number-is size s at ∙ z) in t .goes-on (number-is size s at ∙ z) ∙ rw (q .reads);
-        stops = λ z. t .stops (λ y. z (sym (number-is size s at) ∙ y)) ∙ rw (number-is size s at, next-is size s at);
-      }
 
   pub windows-as-machine : (n : ℕ) (m : List ℕ) (at : ℕ) → at ≤ length s
       → Takes (runFrom m n at) (windowsStop size s n at)

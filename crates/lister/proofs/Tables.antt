@@ -5,9 +5,10 @@ use mathlib.Core.List.{List, [], _∷_, _++_, map}
 use native.Mathlib.Omega.{arith}
 use native.Mathlib.Numerals.{add-one}
 use lib.ListN.{length, set, drop, length-set, length-map}
-use lib.Seq.{sets, sets-eq}
+use lib.Seq.{sets}
 use borrow.Author.Tests.{eq-eqb, ne-eqb, eqb-true, eqb-false}
 use lib.Dec.{eqb}
+use Rattle.cells.proofs.Over.{sets-front}
 use Rattle.chain.proofs.ByCases.{by-test}
 use Rattle.chain.specs.Paper.{done}
 use Rattle.chain.specs.Kinds.{sizeOf}
@@ -52,39 +53,40 @@ module _ (size : ℕ) (s : List ℕ) (n p : ℕ) (starts₀ ends₀ offsets₀ :
         offsets-rest = rw e;
       }
 
-  module _ (starts ends offsets : List ℕ) (at i : ℕ) (f : Filling starts ends offsets at i) where
-    -- where the window at hand stands
-    pub filling-first : i < n → (readWindowOf size s at .first ≡ at + 5)
-    filling-first h =
-        let w = windows-first size s (n - i) at (omega arith) (f .sound) in
-        ap (λ (r : ReadWindow). r .first) (w .0 .reads)
+module _ {size : ℕ} {s : List ℕ} {n p : ℕ} {starts₀ ends₀ offsets₀ starts ends offsets : List ℕ} {at i : ℕ}
+    (f : Filling size s n p starts₀ ends₀ offsets₀ starts ends offsets at i) where
+  -- where the window at hand stands
+  pub filling-first : i < n → (readWindowOf size s at .first ≡ at + 5)
+  filling-first h =
+      let w = windows-first size s (n - i) at (omega arith) (f .sound) in
+      ap (λ (r : ReadWindow). r .first) (w .0 .reads)
 
-    pub filling-more : size ≤ 65535 → i < n → (r : ReadWindow) → r ≡ readWindowOf size s at
-        → Filling (set starts i (r .start)) (set ends i (r .end)) (set offsets i (r .first - p)) (r .next) (i + 1)
-    filling-more l h r e =
-        let w = windows-first size s (n - i) at (omega arith) (f .sound) in
-        let o : n - i - 1 ≡ n - (i + 1) = omega arith in
-        let g : windowsOf size s (n - i) at ≡ r ∷ windowsOf size s (n - (i + 1)) (r .next) = w .1 ∙ rw (e, o) in
-        record {
-          inside = omega arith;
-          near = omega (arith, next-near r e l);
-          sound = rw (← e, o) at (w .2);
-          starts-long = length-set starts i (r .start) ∙ f .starts-long;
-          ends-long = length-set ends i (r .end) ∙ f .ends-long;
-          offsets-long = length-set offsets i (r .first - p) ∙ f .offsets-long;
-          starts-rest = one-more (λ (w : ReadWindow). w .start) _ starts i r _ _ g (f .starts-rest);
-          ends-rest = one-more (λ (w : ReadWindow). w .end) _ ends i r _ _ g (f .ends-rest);
-          offsets-rest = one-more (λ (w : ReadWindow). w .first - p) _ offsets i r _ _ g (f .offsets-rest);
-        }
-      where
-        next-near : (r : ReadWindow) → r ≡ readWindowOf size s at → size ≤ 65535 → r .next ≤ at + 65540
-        next-near r e l = rw (e, next-is size s at) (let k = reach size s at in omega arith)
+  pub filling-more : size ≤ 65535 → i < n → (r : ReadWindow) → r ≡ readWindowOf size s at
+      → Filling size s n p starts₀ ends₀ offsets₀ (set starts i (r .start)) (set ends i (r .end)) (set offsets i (r .first - p)) (r .next) (i + 1)
+  filling-more l h r e =
+      let w = windows-first size s (n - i) at (omega arith) (f .sound) in
+      let o : n - i - 1 ≡ n - (i + 1) = omega arith in
+      let g : windowsOf size s (n - i) at ≡ r ∷ windowsOf size s (n - (i + 1)) (r .next) = w .1 ∙ rw (e, o) in
+      record {
+        inside = omega arith;
+        near = omega (arith, next-near r e l);
+        sound = rw (← e, o) at (w .2);
+        starts-long = length-set starts i (r .start) ∙ f .starts-long;
+        ends-long = length-set ends i (r .end) ∙ f .ends-long;
+        offsets-long = length-set offsets i (r .first - p) ∙ f .offsets-long;
+        starts-rest = one-more (λ (w : ReadWindow). w .start) _ starts i r _ _ g (f .starts-rest);
+        ends-rest = one-more (λ (w : ReadWindow). w .end) _ ends i r _ _ g (f .ends-rest);
+        offsets-rest = one-more (λ (w : ReadWindow). w .first - p) _ offsets i r _ _ g (f .offsets-rest);
+      }
+    where
+      next-near : (r : ReadWindow) → r ≡ readWindowOf size s at → size ≤ 65535 → r .next ≤ at + 65540
+      next-near r e l = rw (e, next-is size s at) (let k = reach size s at in omega arith)
 
-    pub filling-all : n ≤ i → (starts ≡ sets starts₀ 0 (startsOf (windowsOf size s n (p + 6))))
-        × ((ends ≡ sets ends₀ 0 (endsOf (windowsOf size s n (p + 6)))) × (offsets ≡ sets offsets₀ 0 (offsetsOf p (windowsOf size s n (p + 6)))))
-    filling-all h =
-        let e : windowsOf size s (n - i) at ≡ [] = windows-list-none size s (n - i) at (omega arith) in
-        (sym (f .starts-rest ∙ rw e), (sym (f .ends-rest ∙ rw e), sym (f .offsets-rest ∙ rw e)))
+  pub filling-all : n ≤ i → (starts ≡ sets starts₀ 0 (startsOf (windowsOf size s n (p + 6))))
+      × ((ends ≡ sets ends₀ 0 (endsOf (windowsOf size s n (p + 6)))) × (offsets ≡ sets offsets₀ 0 (offsetsOf p (windowsOf size s n (p + 6)))))
+  filling-all h =
+      let e : windowsOf size s (n - i) at ≡ [] = windows-list-none size s (n - i) at (omega arith) in
+      (sym (f .starts-rest ∙ rw e), (sym (f .ends-rest ∙ rw e), sym (f .offsets-rest ∙ rw e)))
 
 -- ---- the call: nothing filled in, or all of it. size, p, e and r are what its parts answered
 
@@ -148,11 +150,6 @@ module _ (kind mode : ℕ) (s starts ends offsets : List ℕ) (size p : ℕ) (e 
 
 -- ---- what the promise says of the tables: the windows listed, as many as are answered, and the rest as lent
 
-table-front : (vs l : List ℕ) → length vs ≤ length l → sets l 0 vs ≡ vs ++ drop (length vs) l
-table-front vs l h =
-    let e : 0 + length vs ≡ length vs = omega arith in
-    sets-eq vs l 0 (omega arith) ∙ rw e
-
 pub record Left (listing : List ReadWindow) (n p : ℕ) (starts ends offsets starts′ ends′ offsets′ : List ℕ) : Type 0 where
   pub count : length listing ≡ n
   pub starts-are : starts′ ≡ startsOf listing ++ drop n starts
@@ -192,4 +189,4 @@ module _ (kind mode : ℕ) (s starts ends offsets : List ℕ) where
           ≡ map g (listing kind mode s starts ends offsets) ++ drop (length (listing kind mode s starts ends offsets)) old
       front g old h =
           let e : length (map g (listing kind mode s starts ends offsets)) ≡ length (listing kind mode s starts ends offsets) = length-map (listing kind mode s starts ends offsets) g in
-          table-front (map g (listing kind mode s starts ends offsets)) old (omega arith) ∙ rw e
+          sets-front (map g (listing kind mode s starts ends offsets)) old (omega arith) ∙ rw e

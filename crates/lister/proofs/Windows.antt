@@ -1,21 +1,23 @@
 -- What a window's number tells, how far it reaches, and one window more. Assumes nothing.
 use Prim.Native.Nat.{ℕ, zero, suc, _+_, _-_, _*_, _≤_, _<_}
-use mathlib.Core.Bool.{Bool, true, false, not, _&&_, _||_, and-false, true≢false}
+use mathlib.Core.Bool.{Bool, true, false, _&&_, _||_, and-false, true≢false}
 use mathlib.Core.Path.{_≡_, refl, sym, ap, _∙_}
 use mathlib.Core.List.{List, [], _∷_}
 use native.Mathlib.Omega.{arith}
-use borrow.Author.Tests.{lt-ltb, le-ltb, le-leb, lt-leb, ltb-true, ltb-false, leb-true, leb-false, eqb-true, eqb-false, not-true, not-false}
+use borrow.Author.Tests.{lt-ltb, le-ltb, le-leb, lt-leb, ltb-true, ltb-false, leb-true, leb-false, eqb-true, eqb-false}
 use lib.Dec.{eqb, ltb, leb}
 use lib.ListN.{length}
 use Rattle.chain.proofs.ByCases.{by-test}
+use Rattle.chain.proofs.Means.{Means, says, reads}
 use Rattle.chain.specs.Paper.{done, bad-start, bad-end, more}
 use Rattle.chain.specs.Rules.{pick}
+use Rattle.chain.specs.Window.{startOutside, endOutside}
 use Rattle.lister.specs.declared.stream.Stop.{Stop}
 use Rattle.lister.specs.declared.window.ReadWindow.{ReadWindow}
 use Rattle.lister.specs.Stops.{stop}
 use Rattle.lister.specs.Windows.{startAt, endAt, nextAt, windowStop, readWindowOf, windowsStop, windowsOf}
 
--- ---- the six ways in which one window is read
+-- ---- the ways in which one window is read
 
 -- a reading that stops with a number is no window
 abbrev pub stopped : ℕ → ℕ → ReadWindow
@@ -23,49 +25,37 @@ stopped n t = record { number = n; start = 0; end = 0; first = 0; next = t }
 
 module _ (size : ℕ) (s : List ℕ) (at : ℕ) where
   -- used up before the start's second byte
-  pub no-start : length s < at + 3 → windowStop size s at ≡ stop more (length s)
-  unfolding windowStop
+  pub no-start : length s < at + 3 → stopped more (length s) ≡ readWindowOf size s at
+  unfolding windowStop readWindowOf
   no-start h =
       rw (lt-leb (at + 3) (length s) h, lt-leb (at + 5) (length s) (omega arith), lt-ltb (length s) (nextAt s at) (omega arith))
 
-  pub start-bad : at + 3 ≤ length s → size ≤ startAt s at → windowStop size s at ≡ stop bad-start (at + 3)
-  unfolding windowStop
+  pub start-bad : at + 3 ≤ length s → size ≤ startAt s at → stopped bad-start (at + 3) ≡ readWindowOf size s at
+  unfolding windowStop readWindowOf
   start-bad h b = rw (le-leb (at + 3) (length s) h, le-ltb (startAt s at) size b)
 
-  -- or before the end's
-  pub no-end : startAt s at < size → length s < at + 5 → windowStop size s at ≡ stop more (length s)
-  unfolding windowStop
-  no-end a h =
-      simp (lt-ltb (startAt s at) size a, and-false, lt-leb (at + 5) (length s) h, lt-ltb (length s) (nextAt s at) (omega arith))
+  module _ (a : startAt s at < size) where
+    -- or before the end's
+    pub no-end : length s < at + 5 → stopped more (length s) ≡ readWindowOf size s at
+    unfolding windowStop readWindowOf
+    no-end h =
+        simp (lt-ltb (startAt s at) size a, and-false, lt-leb (at + 5) (length s) h, lt-ltb (length s) (nextAt s at) (omega arith))
 
-  pub end-below : startAt s at < size → at + 5 ≤ length s → endAt s at < startAt s at → windowStop size s at ≡ stop bad-end (at + 5)
-  unfolding windowStop
-  end-below a h b =
-      simp (lt-ltb (startAt s at) size a, and-false, le-leb (at + 5) (length s) h, lt-ltb (endAt s at) (startAt s at) b)
+    pub end-bad : at + 5 ≤ length s → endOutside size (startAt s at) (endAt s at) ≡ true → stopped bad-end (at + 5) ≡ readWindowOf size s at
+    unfolding windowStop readWindowOf
+    end-bad h b = simp (lt-ltb (startAt s at) size a, and-false, le-leb (at + 5) (length s) h, b)
 
-  pub end-past : startAt s at < size → at + 5 ≤ length s → startAt s at ≤ endAt s at → size ≤ endAt s at
-      → windowStop size s at ≡ stop bad-end (at + 5)
-  unfolding windowStop
-  end-past a h b e =
-      simp (lt-ltb (startAt s at) size a, and-false, le-leb (at + 5) (length s) h, le-ltb (endAt s at) (startAt s at) b, le-ltb (endAt s at) size e)
+    -- or within the data
+    pub no-data : endOutside size (startAt s at) (endAt s at) ≡ false → length s < nextAt s at → stopped more (length s) ≡ readWindowOf size s at
+    unfolding windowStop readWindowOf
+    no-data b h = simp (lt-ltb (startAt s at) size a, and-false, b, lt-ltb (length s) (nextAt s at) h)
 
-  -- or within the data
-  pub no-data : startAt s at < size → startAt s at ≤ endAt s at → endAt s at < size → length s < nextAt s at
-      → windowStop size s at ≡ stop more (length s)
-  unfolding windowStop
-  no-data a b e h =
-      simp (lt-ltb (startAt s at) size a, and-false, le-ltb (endAt s at) (startAt s at) b, lt-ltb (endAt s at) size e, lt-ltb (length s) (nextAt s at) h)
+    pub found-whole : endOutside size (startAt s at) (endAt s at) ≡ false → nextAt s at ≤ length s → windowStop size s at ≡ stop done (nextAt s at)
+    unfolding windowStop
+    found-whole b h = simp (lt-ltb (startAt s at) size a, and-false, b, le-ltb (length s) (nextAt s at) h)
 
-  pub whole : startAt s at < size → startAt s at ≤ endAt s at → endAt s at < size → nextAt s at ≤ length s
-      → windowStop size s at ≡ stop done (nextAt s at)
-  unfolding windowStop
-  whole a b e h =
-      simp (lt-ltb (startAt s at) size a, and-false, le-ltb (endAt s at) (startAt s at) b, lt-ltb (endAt s at) size e, le-ltb (length s) (nextAt s at) h)
-
-  -- and what is answered of each
-  pub read-stopped : (n t : ℕ) → eqb n done ≡ false → windowStop size s at ≡ stop n t → readWindowOf size s at ≡ stopped n t
-  unfolding readWindowOf
-  read-stopped n t z e = rw (e, z)
+  pub whole : startAt s at < size → startAt s at ≤ endAt s at → endAt s at < size → nextAt s at ≤ length s → windowStop size s at ≡ stop done (nextAt s at)
+  whole a b e h = found-whole a (rw (le-ltb (endAt s at) (startAt s at) b, lt-ltb (endAt s at) size e)) h
 
   pub read-whole : windowStop size s at ≡ stop done (nextAt s at)
       → readWindowOf size s at ≡ record { number = done; start = startAt s at; end = endAt s at; first = at + 5; next = nextAt s at }
@@ -74,22 +64,13 @@ module _ (size : ℕ) (s : List ℕ) (at : ℕ) where
 
 -- ---- by cases
 
-pub and-yes : (a b : Bool) → (a && b) ≡ true → (a ≡ true) × (b ≡ true)
-and-yes true true h = (refl, refl)
-and-yes true false h = (refl, h)
-and-yes false b h = (h, absurd (true≢false (sym h)))
+m-excludes : {a b : Bool} {P Q : Type 0} → Means a true P → Means b false Q → Means (a && b) false (P → Q)
+m-excludes {a = true} p q = record { says = λ e x. q .says e; said = λ h. q .said (h (p .says refl)) }
+m-excludes {a = false} p q = record { says = λ e x. absurd (true≢false (sym (p .said x))); said = λ h. refl }
 
-pub and-no : (a b : Bool) → (a && b) ≡ false → a ≡ true → b ≡ false
-and-no true b h e = h
-and-no false b h e = absurd (true≢false (sym e))
-
-pub or-yes : (a b : Bool) → (a || b) ≡ true → a ≡ false → b ≡ true
-or-yes true b h e = absurd (true≢false e)
-or-yes false b h e = h
-
-pub or-no : (a b : Bool) → (a || b) ≡ false → (a ≡ false) × (b ≡ false)
-or-no true b h = absurd (true≢false h)
-or-no false b h = (refl, h)
+m-or-else : {a b : Bool} {P Q : Type 0} → Means a false P → Means b true Q → Means (a || b) true (P → Q)
+m-or-else {a = true} p q = record { says = λ e x. absurd (true≢false (p .said x)); said = λ h. refl }
+m-or-else {a = false} p q = record { says = λ e x. q .says e; said = λ h. q .said (h (p .says refl)) }
 
 module _ (size : ℕ) (s : List ℕ) (at : ℕ) where
   -- the four: a bad start, a bad end, used up, whole
@@ -102,19 +83,14 @@ module _ (size : ℕ) (s : List ℕ) (at : ℕ) where
       → P (windowStop size s at)
   unfolding windowStop
   ways P p q r w =
-      by-test (leb (at + 3) (length s) && not (ltb (startAt s at) size))
-      (λ a. let x = and-yes (leb (at + 3) (length s)) (not (ltb (startAt s at) size)) a in
-      rw a (p (leb-true (at + 3) (length s) (x .0)) (ltb-false (startAt s at) size (not-true (ltb (startAt s at) size) (x .1)))))
-      (λ a. let f : at + 3 ≤ length s → startAt s at < size =
-      λ h. ltb-true (startAt s at) size (not-false (ltb (startAt s at) size) (and-no (leb (at + 3) (length s)) (not (ltb (startAt s at) size)) a (le-leb (at + 3) (length s) h))) in
-      by-test (leb (at + 5) (length s) && (ltb (endAt s at) (startAt s at) || not (ltb (endAt s at) size)))
-      (λ b. let x = and-yes (leb (at + 5) (length s)) (ltb (endAt s at) (startAt s at) || not (ltb (endAt s at) size)) b in
-      let l : at + 5 ≤ length s = leb-true (at + 5) (length s) (x .0) in
-      rw (a, b) (q l (f (omega arith))
-      (λ h. ltb-false (endAt s at) size (not-true (ltb (endAt s at) size) (or-yes (ltb (endAt s at) (startAt s at)) (not (ltb (endAt s at) size)) (x .1) (le-ltb (endAt s at) (startAt s at) h))))))
-      (λ b. let g : at + 5 ≤ length s → (startAt s at ≤ endAt s at) × (endAt s at < size) =
-      λ h. let y = or-no (ltb (endAt s at) (startAt s at)) (not (ltb (endAt s at) size)) (and-no (leb (at + 5) (length s)) (ltb (endAt s at) (startAt s at) || not (ltb (endAt s at) size)) b (le-leb (at + 5) (length s) h)) in
-      (ltb-false (endAt s at) (startAt s at) (y .0), ltb-true (endAt s at) size (not-false (ltb (endAt s at) size) (y .1))) in
+      by-test (leb (at + 3) (length s) && startOutside size (startAt s at))
+      (λ a. let x : (at + 3 ≤ length s) × (size ≤ startAt s at) = says (search reads) a in
+      rw a (p (x .0) (x .1)))
+      (λ a. let f : at + 3 ≤ length s → startAt s at < size = says (search (m-excludes, reads)) a in
+      by-test (leb (at + 5) (length s) && endOutside size (startAt s at) (endAt s at))
+      (λ b. let x : (at + 5 ≤ length s) × (startAt s at ≤ endAt s at → size ≤ endAt s at) = says (search (m-or-else, reads)) b in
+      rw (a, b) (q (x .0) (f (omega arith)) (x .1)))
+      (λ b. let g : at + 5 ≤ length s → (startAt s at ≤ endAt s at) × (endAt s at < size) = says (search (m-excludes, reads)) b in
       by-test (ltb (length s) (nextAt s at))
       (λ d. rw (a, b, d) (r f g (ltb-true (length s) (nextAt s at) d)))
       (λ d. let n : nextAt s at ≤ length s = ltb-false (length s) (nextAt s at) d in
@@ -185,19 +161,25 @@ module _ (size : ℕ) (s : List ℕ) where
       (λ e. rw e (omega arith))
 
   -- where all of them are whole, so are the first and the others
+  windows-next : (n at : ℕ) → windowsStop size s (suc n) at .number ≡ done
+      → Whole size s at × (windowsStop size s (suc n) at ≡ windowsStop size s n (nextAt s at))
+      × (windowsOf size s (suc n) at ≡ readWindowOf size s at ∷ windowsOf size s n (nextAt s at))
+  unfolding windowsStop windowsOf
+  windows-next n at z =
+      by-test (eqb (windowStop size s at .number) done)
+      (λ e. let w = is-whole size s at (eqb-true (windowStop size s at .number) done e) in
+      (w, rw (e, whole-next size s at w), rw e))
+      (λ e. absurd (eqb-false (windowStop size s at .number) done e (rw e at z)))
+
   pub windows-first : (n at : ℕ) → 0 < n → windowsStop size s n at .number ≡ done
       → Whole size s at × (windowsOf size s n at ≡ readWindowOf size s at ∷ windowsOf size s (n - 1) (readWindowOf size s at .next))
       × (windowsStop size s (n - 1) (readWindowOf size s at .next) .number ≡ done)
-  unfolding windowsStop windowsOf
   windows-first zero at h z = absurd (omega (arith, h))
   windows-first (suc n) at h z =
       let o : suc n - 1 ≡ n = omega arith in
-      by-test (eqb (windowStop size s at .number) done)
-      (λ e. let w = is-whole size s at (eqb-true (windowStop size s at .number) done e) in
-      let t : readWindowOf size s at .next ≡ nextAt s at = ap (λ (r : ReadWindow). r .next) (w .reads) in
-      let u : windowStop size s at .taken ≡ nextAt s at = whole-next size s at w in
-      (w, rw (e, o, t), rw (o, t) (rw (e, u) at z)))
-      (λ e. absurd (eqb-false (windowStop size s at .number) done e (rw e at z)))
+      let w = windows-next n at z in
+      let t : readWindowOf size s at .next ≡ nextAt s at = ap (λ (r : ReadWindow). r .next) (w .0 .reads) in
+      (w .0, w .2 ∙ ap (λ (ws : List ReadWindow). readWindowOf size s at ∷ ws) (rw (o, t)), rw (o, t) (rw (w .1) at z))
 
   pub windows-list-none : (n at : ℕ) → n ≤ 0 → windowsOf size s n at ≡ []
   unfolding windowsOf
@@ -206,22 +188,14 @@ module _ (size : ℕ) (s : List ℕ) where
 
   -- whole windows lie inside the stream
   pub windows-inside : (n at : ℕ) → at ≤ length s → windowsStop size s n at .number ≡ done → windowsStop size s n at .taken ≤ length s
-  unfolding windowsStop
-  windows-inside zero at g h = g
+  windows-inside zero at g h = unfold windowsStop in g
   windows-inside (suc n) at g h =
-      by-test (eqb (windowStop size s at .number) done)
-      (λ e. let w = is-whole size s at (eqb-true (windowStop size s at .number) done e) in
-      let u : windowStop size s at .taken ≡ nextAt s at = whole-next size s at w in
-      rw (e, u) (windows-inside n (nextAt s at) (w .all-there) (rw (e, u) at h)))
-      (λ e. absurd (eqb-false (windowStop size s at .number) done e (rw e at h)))
+      let w = windows-next n at h in
+      rw (w .1) (windows-inside n (nextAt s at) (w .0 .all-there) (rw (w .1) at h))
 
   -- as many as were announced
   pub windows-length : (n at : ℕ) → windowsStop size s n at .number ≡ done → length (windowsOf size s n at) ≡ n
-  unfolding windowsStop windowsOf
-  windows-length zero at h = refl
+  windows-length zero at h = unfold windowsOf in refl
   windows-length (suc n) at h =
-      by-test (eqb (windowStop size s at .number) done)
-      (λ e. let w = is-whole size s at (eqb-true (windowStop size s at .number) done e) in
-      let u : windowStop size s at .taken ≡ nextAt s at = whole-next size s at w in
-      rw e (ap suc (windows-length n (nextAt s at) (rw (e, u) at h))))
-      (λ e. absurd (eqb-false (windowStop size s at .number) done e (rw e at h)))
+      let w = windows-next n at h in
+      rw (w .2) (ap suc (windows-length n (nextAt s at) (rw (w .1) at h)))

@@ -1,33 +1,34 @@
 -- Windows of a stream, each read at the position of its null byte: null, start (high, low), end (high, low), data. Assumes nothing.
-use Prim.Native.Nat.{ℕ, zero, suc, _+_, _-_, _*_}
-use mathlib.Core.Bool.{not, _&&_, _||_}
+use Prim.Native.Nat.{ℕ, zero, suc, _+_}
+use mathlib.Core.Bool.{_&&_}
 use mathlib.Core.List.{List, [], _∷_}
 use lib.ListN.{length, getD}
 use lib.Dec.{eqb, ltb, leb}
 use Rattle.chain.specs.Paper.{done, bad-start, bad-end, more}
 use Rattle.chain.specs.Rules.{pick}
+use Rattle.chain.specs.Window.{word, widthOf, startOutside, endOutside}
 use Rattle.lister.specs.declared.stream.Stop.{Stop}
 use Rattle.lister.specs.declared.window.ReadWindow.{ReadWindow}
 use Rattle.lister.specs.Stops.{stop, Row, _gives_after_, firstStop, _then_, ifDone}
 
 abbrev pub startAt : List ℕ → ℕ → ℕ
-startAt s at = getD s (at + 1) 0 * 256 + getD s (at + 2) 0
+startAt s at = word (getD s (at + 1) 0) (getD s (at + 2) 0)
 
 abbrev pub endAt : List ℕ → ℕ → ℕ
-endAt s at = getD s (at + 3) 0 * 256 + getD s (at + 4) 0
+endAt s at = word (getD s (at + 3) 0) (getD s (at + 4) 0)
 
--- its first data byte, and the byte after its last: start to end inclusive are end - start + 1
+-- its first data byte, and the byte after its last
 abbrev pub firstAt : ℕ → ℕ
 firstAt at = at + 5
 
 abbrev pub nextAt : List ℕ → ℕ → ℕ
-nextAt s at = at + 5 + (endAt s at - startAt s at + 1)
+nextAt s at = firstAt at + widthOf (startAt s at) (endAt s at)
 
 -- 11 at the start's second byte, 12 at the end's, 16 where the stream is used up within the window
 abbrev pub windowRows : ℕ → List ℕ → ℕ → List Row
 windowRows size s at =
-    (leb (at + 3) (length s) && not (ltb (startAt s at) size) gives bad-start after (at + 3))
-    ∷ (leb (at + 5) (length s) && (ltb (endAt s at) (startAt s at) || not (ltb (endAt s at) size)) gives bad-end after (at + 5))
+    (leb (at + 3) (length s) && startOutside size (startAt s at) gives bad-start after (at + 3))
+    ∷ (leb (at + 5) (length s) && endOutside size (startAt s at) (endAt s at) gives bad-end after (at + 5))
     ∷ (ltb (length s) (nextAt s at) gives more after (length s))
     ∷ []
 

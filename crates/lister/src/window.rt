@@ -1,7 +1,9 @@
 // One window of a stream, read where its null byte stands. Its data is skipped, so that a stream is read by its windows.
 use chain::paper::*;
+use chain::window::pair;
+use chain::window::width;
 ghost use mathlib.Core.Path.{_≡_};
-ghost use Prim.Native.Nat.{_+_, _-_, _*_};
+ghost use Prim.Native.Nat.{_-_};
 ghost use Rattle.lister.specs.Windows.{readWindowOf};
 
 // The window's bounds, the position of its first data byte, and the position after its last. Where the number is not 0
@@ -19,12 +21,6 @@ fn rest(len: usize, at: usize) -> usize
     ensures { λ r. ⌜ r ≡ len - at ⌝ }
 {
     if at <= len { len - at } else { 0 }
-}
-
-fn word(high: u8, low: u8) -> u16
-    ensures { λ r. ⌜ r ≡ high * 256 + low ⌝ }
-{
-    high as u16 * 256 + low as u16
 }
 
 fn stopped(number: u8, next: usize) -> ReadWindow
@@ -48,22 +44,19 @@ pub fn read_window(size: u16, s: &[u8], at: usize) -> ReadWindow
     if left < 3 {
         return stopped(MORE, n);
     }
-    let start = word(s[at + 1], s[at + 2]);
+    let start = pair(s[at + 1], s[at + 2]);
     if size <= start {
         return stopped(BAD_START, at + 3);
     }
     if left < 5 {
         return stopped(MORE, n);
     }
-    let end = word(s[at + 3], s[at + 4]);
-    if end < start {
+    let end = pair(s[at + 3], s[at + 4]);
+    if (end < start) | !(end < size) {
         return stopped(BAD_END, at + 5);
     }
-    if size <= end {
-        return stopped(BAD_END, at + 5);
-    }
-    let width = (end - start) as usize + 1;
-    if left - 5 < width {
+    let cells = width(start, end);
+    if left - 5 < cells {
         return stopped(MORE, n);
     }
     let first = at + 5;
@@ -72,6 +65,6 @@ pub fn read_window(size: u16, s: &[u8], at: usize) -> ReadWindow
         start,
         end,
         first,
-        next: first + width,
+        next: first + cells,
     }
 }

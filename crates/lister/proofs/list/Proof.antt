@@ -8,15 +8,6 @@ use borrow.Author.Needs.{needs}
 use Rattle.lister.proofs.list.Statement.{statement}
 use Rattle.lister.proofs.list.Tie as tie
 
-size-of-requires : tie.Need-size-of-requires
-size-of-requires c κs = search needs
-
-preamble-at-requires : tie.Need-preamble-at-requires
-preamble-at-requires c κs = search needs
-
-look-requires : tie.Need-look-requires
-look-requires c κs = search needs
-
 answer-requires : tie.Need-answer-requires
 answer-requires c κs = let a = (c .before .before .before .before .before .before .before .args) in (
   search needs,
@@ -25,39 +16,39 @@ answer-requires c κs = let a = (c .before .before .before .before .before .befo
 )
 
 returns : tie.Need-returns
-returns c = let a = (c .before .before .before .before .before .before .before .before .before .before .args) in lists-none (a .kind) (a .mode) (a .s .now) (a .starts .now) (a .ends .now) (a .offsets .now) (c .before .before .before .before .before .size-of .result) (c .before .before .before .before .preamble-at .result) (c .before .before .before .look .result) (c .before .before .answer .result) (c .before .before .before .before .before .size-of .ensures) (c .before .before .before .before .preamble-at .ensures .0) (c .before .before .before .look .ensures) (c .before .before .answer .ensures) (c .if1 .taken)
-
-cast-fill : tie.Need-cast-fill
-cast-fill c = search needs
+returns c =
+    let at-look = c .before .before .before in
+    let at-preamble-at = at-look .before in
+    let at-size-of = at-preamble-at .before in
+    let entry = at-size-of .before .before .before .before .before in
+    let a = entry .args in
+    lists-none (a .kind) (a .mode) (a .s .now) (a .starts .now) (a .ends .now) (a .offsets .now) (at-size-of .size-of .result) (at-preamble-at .preamble-at .result) (at-look .look .result) (c .before .before .answer .result) (at-size-of .size-of .ensures) (at-preamble-at .preamble-at .ensures .0) (at-look .look .ensures) (c .before .before .answer .ensures) (c .if1 .taken)
 
 fill-requires : tie.Need-fill-requires
-fill-requires c κs = let a = (c .before .before .before .before .before .before .before .before .before .before .before .before .before .before .args) in let f = may-fill (a .kind) (a .mode) (a .s .now) (a .starts .now) (a .ends .now) (a .offsets .now) (c .before .before .before .before .before .before .before .before .before .size-of .result) (c .before .before .before .before .before .before .before .before .preamble-at .result) (c .before .before .before .before .before .before .before .look .result) (c .before .before .before .before .before .before .answer .result) (c .before .before .before .before .before .before .before .before .before .size-of .ensures) (c .before .before .before .before .before .before .before .before .preamble-at .ensures .0) (c .before .before .before .before .before .before .before .look .ensures) (c .before .before .before .before .before .before .answer .ensures) (c .before .before .before .before .before .before .before .before .preamble-at .ensures .1) (c .before .before .before .before .if1 .left) in
-    (f .0, (c .before .before .before .before .before .before .before .before .preamble-at .ensures .1), f .1, f .2, f .3, f .4)
-
-same-length : tie.Need-same-length
-same-length c = search needs
-
-same-length-2 : tie.Need-same-length-2
-same-length-2 c = search needs
-
-same-length-3 : tie.Need-same-length-3
-same-length-3 c = search needs
+fill-requires c κs =
+    let at-if1 = c .before .before .before .before in
+    let at-answer = at-if1 .before .before in
+    let at-look = at-answer .before in
+    let at-preamble-at = at-look .before in
+    let at-size-of = at-preamble-at .before in
+    let entry = at-size-of .before .before .before .before .before in
+    let a = entry .args in
+    let f = may-fill (a .kind) (a .mode) (a .s .now) (a .starts .now) (a .ends .now) (a .offsets .now) (at-size-of .size-of .result) (at-preamble-at .preamble-at .result) (at-look .look .result) (at-answer .answer .result) (at-size-of .size-of .ensures) (at-preamble-at .preamble-at .ensures .0) (at-look .look .ensures) (at-answer .answer .ensures) (at-preamble-at .preamble-at .ensures .1) (at-if1 .if1 .left) in
+    (f .0, (at-preamble-at .preamble-at .ensures .1), f .1, f .2, f .3, f .4)
 
 returns-2 : tie.Need-returns-2
-returns-2 c = let a = (c .before .before .before .before .before .before .before .before .before .before .before .before .before .before .before .before .before .before .before .before .before .args) in lists-all (a .kind) (a .mode) (a .s .now) (a .starts .now) (a .ends .now) (a .offsets .now) (c .before .before .before .before .before .before .before .before .before .before .before .before .before .before .before .before .size-of .result) (c .before .before .before .before .before .before .before .before .before .before .before .before .before .before .before .preamble-at .result) (c .before .before .before .before .before .before .before .before .before .before .before .before .before .before .look .result) (c .before .before .before .before .before .before .before .before .before .before .before .before .before .answer .result) (c .before .before .before .before .before .before .before .before .before .before .before .before .before .before .before .before .size-of .ensures) (c .before .before .before .before .before .before .before .before .before .before .before .before .before .before .before .preamble-at .ensures .0) (c .before .before .before .before .before .before .before .before .before .before .before .before .before .before .look .ensures) (c .before .before .before .before .before .before .before .before .before .before .before .before .before .answer .ensures) _ _ _ (c .before .before .before .before .before .before .before .before .before .before .before .if1 .left) (c .before .before .before .before .before .before .fill .ensures)
+returns-2 c =
+    let at-fill = c .before .before .before .before .before .before in
+    let at-if1 = at-fill .before .before .before .before .before in
+    let at-answer = at-if1 .before .before in
+    let at-look = at-answer .before in
+    let at-preamble-at = at-look .before in
+    let at-size-of = at-preamble-at .before in
+    let entry = at-size-of .before .before .before .before .before in
+    let a = entry .args in
+    lists-all (a .kind) (a .mode) (a .s .now) (a .starts .now) (a .ends .now) (a .offsets .now) (at-size-of .size-of .result) (at-preamble-at .preamble-at .result) (at-look .look .result) (at-answer .answer .result) (at-size-of .size-of .ensures) (at-preamble-at .preamble-at .ensures .0) (at-look .look .ensures) (at-answer .answer .ensures) _ _ _ (at-if1 .if1 .left) (at-fill .fill .ensures)
 
 pub list-spec : {M : Type 1} → statement M
 list-spec =
-    tie.close
-    (tie.spec
-    size-of-requires
-    preamble-at-requires
-    look-requires
-    answer-requires
-    returns
-    cast-fill
-    fill-requires
-    same-length
-    same-length-2
-    same-length-3
-    returns-2)
+    tie.close (tie.spec (search needs) (search needs) (search needs) answer-requires returns (search needs)
+    fill-requires (search needs) (search needs) (search needs) returns-2)

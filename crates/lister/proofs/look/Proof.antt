@@ -17,27 +17,19 @@ returns-2 : tie.Need-returns-2
 unfolding listStop
 returns-2 c = simp ((c .if2 .taken)) (search tests)
 
-read-stream-requires : tie.Need-read-stream-requires
-read-stream-requires c κs = search needs
-
 returns-3 : tie.Need-returns-3
 unfolding listStop
 returns-3 c = simp ((c .before .before .before .if2 .left), ← (c .before .before .read-stream .ensures)) (search tests)
 
-preamble-at-requires : tie.Need-preamble-at-requires
-preamble-at-requires c κs = search needs
-
-add-n : tie.Need-add-n
-add-n c = search needs
-
 shared-slice-read-n : tie.Need-shared-slice-read-n
-shared-slice-read-n c = let a = (c .before .before .before .before .before .before .before .before .args) in let h = stream-done (a .size) (a .mode) (a .s .now) (ap (λ (e : Stop). e .number) (sym (c .before .before .before .before .read-stream .ensures)) ∙ (c .before .before .if3 .left)) in omega arith
+shared-slice-read-n c =
+    let at-read-stream = c .before .before .before .before in
+    let entry = at-read-stream .before .before .before .before in
+    let a = entry .args in
+    let h = stream-done (a .size) (a .mode) (a .s .now) (ap (λ (e : Stop). e .number) (sym (at-read-stream .read-stream .ensures)) ∙ (c .before .before .if3 .left)) in omega arith
 
 sub-n : tie.Need-sub-n
 sub-n c = omega (arith, (c .shared-slice-known2 .given) ((c .before .preamble-at .result) + 5))
-
-cast-n : tie.Need-cast-n
-cast-n c = search needs
 
 returns-4 : tie.Need-returns-4
 unfolding listStop
@@ -49,16 +41,5 @@ returns-5 c = simp ((c .before .before .before .before .before .before .if2 .lef
 
 pub look-spec : {M : Type 1} → statement M
 look-spec =
-    tie.close
-    (tie.spec
-    returns
-    returns-2
-    read-stream-requires
-    returns-3
-    preamble-at-requires
-    add-n
-    shared-slice-read-n
-    sub-n
-    cast-n
-    returns-4
-    returns-5)
+    tie.close (tie.spec returns returns-2 (search needs) returns-3 (search needs) (search needs)
+    shared-slice-read-n sub-n (search needs) returns-4 returns-5)

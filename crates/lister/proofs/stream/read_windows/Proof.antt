@@ -16,18 +16,9 @@ abbrev μ-loop : tie.MeasureT-loop
 loop-holds : tie.Need-loop-holds Inv-loop μ-loop
 loop-holds c = refl
 
-read-window-requires : tie.Need-read-window-requires Inv-loop μ-loop
-read-window-requires c κs = search needs
-
 returns : tie.Need-returns Inv-loop μ-loop
 returns c = let a = (c .before .before .before .before .before .before .args) in let l = (c .before .before .before .before .loop) in let e = (c .before .before .before .before .loop .inv) ∙ windows-more (a .size) (a .s .now) (l .left) (l .at) (search needs) in
     sym (rw (← (c .before .before .read-window .ensures)) at e ∙ rw (ne-eqb _ done (c .if1 .taken)))
-
-sub-left : tie.Need-sub-left Inv-loop μ-loop
-sub-left c = search needs
-
-loop-less : tie.Need-loop-less Inv-loop μ-loop
-loop-less c = search needs
 
 loop-again : tie.Need-loop-again Inv-loop μ-loop
 loop-again c = let a = (c .before .before .before .before .before .before .args) in let l = (c .before .before .before .before .loop) in let e = (c .before .before .before .before .loop .inv) ∙ windows-more (a .size) (a .s .now) (l .left) (l .at) (search needs) in
@@ -38,14 +29,5 @@ returns-2 c = let a = (c .before .before .before .args) in let l = (c .before .l
 
 pub read-windows-spec : {M : Type 1} → statement M
 read-windows-spec =
-    tie.close
-    (tie.spec
-    Inv-loop
-    μ-loop
-    loop-holds
-    read-window-requires
-    returns
-    sub-left
-    loop-less
-    loop-again
-    returns-2)
+    tie.close (tie.spec Inv-loop μ-loop loop-holds (search needs) returns (search needs) (search needs)
+    loop-again returns-2)
