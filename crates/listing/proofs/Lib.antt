@@ -4,6 +4,5 @@ pub mod Listings
 pub mod Ways
 pub mod Whole
 pub mod Printed
-pub mod Fits
 pub mod Only
 pub mod Cases

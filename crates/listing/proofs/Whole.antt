@@ -6,7 +6,8 @@ use borrow.Author.Tests.{lt-ltb, le-ltb}
 use native.Mathlib.Omega.{arith}
 use native.Mathlib.Nat.{zero-add}
 use lib.ListN.{length, take, drop, getD, length-drop}
-use lib.Seq.{sets-eq, length-take-le, take-all}
+use lib.Seq.{length-take-le, take-all}
+use Rattle.cells.proofs.Over.{sets-front}
 use Rattle.io.specs.Counts.{Counts}
 use Rattle.chain.specs.Paper.{bad-chain}
 use Rattle.listing.specs.Lines.{letter·L, lineOf, Puts}
@@ -40,7 +41,7 @@ writes input t o x r e p h =
     let l = puts-long 0 t o x r p in (
       record {
         answer = rw e n;
-        output = rw e (p .leaves ∙ sets-eq t o 0 (omega arith) ∙ simp zero-add);
+        output = rw e (p .leaves ∙ sets-front t o (omega arith));
       },
       (omega arith, sym (length-take-le r x (omega arith))),
     )

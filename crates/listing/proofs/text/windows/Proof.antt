@@ -21,42 +21,19 @@ loop-holds : tie.Need-loop-holds Inv-loop μ-loop
 unfolding windowLines
 loop-holds c = (search needs, search needs, record { stops = search needs; leaves = search needs })
 
-add-window : tie.Need-add-window Inv-loop μ-loop
-add-window c = search needs
-
-cast-window : tie.Need-cast-window Inv-loop μ-loop
-cast-window c = search needs
-
-mul-window : tie.Need-mul-window Inv-loop μ-loop
-mul-window c = search needs
-
-shared-slice-read-window : tie.Need-shared-slice-read-window Inv-loop μ-loop
-shared-slice-read-window c = search needs
-
-cast-window-2 : tie.Need-cast-window-2 Inv-loop μ-loop
-cast-window-2 c = search needs
-
-mul-window-2 : tie.Need-mul-window-2 Inv-loop μ-loop
-mul-window-2 c = search needs
-
-shared-slice-read-window-2 : tie.Need-shared-slice-read-window-2 Inv-loop μ-loop
-shared-slice-read-window-2 c = search needs
-
 window-requires : tie.Need-window-requires Inv-loop μ-loop
 window-requires c κs =
-    let a = c .before .before .before .before .before .before .before .before .args in
-    omega (arith, puts-long 0 _ (a .out .now) _ _ (c .before .before .before .before .loop .inv .2))
-
-add-i : tie.Need-add-i Inv-loop μ-loop
-add-i c = search needs
-
-loop-less : tie.Need-loop-less Inv-loop μ-loop
-loop-less c = search needs
+    let at-loop = c .before .before .before .before in
+    let entry = at-loop .before .before .before .before in
+    let a = entry .args in
+    omega (arith, puts-long 0 _ (a .out .now) _ _ (at-loop .loop .inv .2))
 
 loop-again : tie.Need-loop-again Inv-loop μ-loop
 loop-again c =
-    let l = c .before .before .before .before .before .before .before .loop in
-    let a = c .before .before .before .before .before .before .before .before .before .before .before .args in
+    let at-loop = c .before .before .before .before .before .before .before in
+    let entry = at-loop .before .before .before .before in
+    let l = at-loop .loop in
+    let a = entry .args in
     let p = c .before .before .window .ensures .0 in
     let t = lines-more (l .i) 1 (a .starts .now) (a .ends .now) (omega arith) (omega arith) in
     (search needs, omega (arith, c .before .before .window .ensures .1), rw (add-one (l .i), t) (puts-then 0 _ _ (a .out .now) _ _ _ _ (l .inv .2) p))
@@ -73,21 +50,6 @@ returns c =
 
 pub windows-spec : {M : Type 1} → statement M
 windows-spec =
-    tie.close
-    (tie.spec
-    Inv-loop
-    μ-loop
-    loop-holds
-    add-window
-    cast-window
-    mul-window
-    shared-slice-read-window
-    cast-window-2
-    mul-window-2
-    shared-slice-read-window-2
-    window-requires
-    add-i
-    loop-less
-    loop-again
-    same-length
-    returns)
+    tie.close (tie.spec Inv-loop μ-loop loop-holds (search needs) (search needs) (search needs) (search needs)
+    (search needs) (search needs) (search needs) window-requires (search needs) (search needs) loop-again
+    same-length returns)
