@@ -44,7 +44,7 @@ unfolding saveOf saveNumber
 save-table c m out = table (saveRules c (length m) (length out)) (saveTable c m out) done tt (search state-reads depth 40)
 
 pub closing-table : (c : Chain) (m out : List ℕ) → Table (closingOf c m (length out) .number) (closingTable c m out) done
-unfolding closingOf writtenNumber
+unfolding writtenNumber
 closing-table c m out = table (closingRules c m (length out)) (closingTable c m out) done tt (search state-reads depth 40)
 
 -- ---- pick-up

@@ -7,7 +7,8 @@ use native.Mathlib.Nat.{div-add-mod'}
 use native.Mathlib.Omega.{arith}
 use lib.Dec.{eqb}
 use lib.ListN.{length, getD, take, drop, length-append}
-use lib.Seq.{sets, sets-eq, take-at, getD-append-add, getD-append-seam, drop-append-add}
+use lib.Seq.{sets, take-at, getD-append-add, getD-append-seam, drop-append-add}
+use Rattle.cells.proofs.Over.{front-is}
 use borrow.Author.Tests.{le-ltb, lt-leb, le-leb, ne-eqb}
 use Rattle.chain.specs.Paper.{preamble, postamble, no-windows, first-mode, two-preambles, done}
 use Rattle.chain.specs.Rules.{pick}
@@ -182,10 +183,6 @@ module _ (size mode : ℕ) (x : Section) (rest : List ℕ) (f : SectionFits size
 
 -- ---- the listing
 
--- the front of a table is what was written there
-table-front : (vs l : List ℕ) (n : ℕ) → length vs ≡ n → n ≤ length l → take n (sets l 0 vs) ≡ vs
-table-front vs l n e h = ap (take n) (sets-eq vs l 0 (omega arith)) ∙ take-at vs (drop (0 + length vs) l) n e
-
 -- its preamble at p; t bytes are up to its postamble
 module _ (kind mode p : ℕ) (s : List ℕ) (x : Section) (t : ℕ) (pa : preambleAt mode ≡ p) (k : Stood (sizeOf kind) mode p s x)
     (tk : t ≡ p + 6 + length (windowsBytes (x .windows)) + 1) where
@@ -261,9 +258,9 @@ module _ (kind mode p : ℕ) (s : List ℕ) (x : Section) (t : ℕ) (pa : preamb
     unfolding preambleAt
     stood-lists =
         let n = length (x .windows) in
-        let sa : take n (sets ts 0 (starts (x .windows))) ≡ starts (x .windows) = table-front (starts (x .windows)) ts n (starts-many (x .windows)) a in
-        let ea : take n (sets te 0 (ends (x .windows))) ≡ ends (x .windows) = table-front (ends (x .windows)) te n (ends-many (x .windows)) b in
-        let oa : take n (sets to 0 (offsets 6 (x .windows))) ≡ offsets 6 (x .windows) = table-front (offsets 6 (x .windows)) to n (offsets-many 6 (x .windows)) d in
+        let sa : take n (sets ts 0 (starts (x .windows))) ≡ starts (x .windows) = front-is (starts (x .windows)) ts n (starts-many (x .windows)) a in
+        let ea : take n (sets te 0 (ends (x .windows))) ≡ ends (x .windows) = front-is (ends (x .windows)) te n (ends-many (x .windows)) b in
+        let oa : take n (sets to 0 (offsets 6 (x .windows))) ≡ offsets 6 (x .windows) = front-is (offsets 6 (x .windows)) to n (offsets-many 6 (x .windows)) d in
         subst (λ (r : AfterList). Lists mode s t x r) (sym list-is)
         (record {
           number = refl;

@@ -16,7 +16,7 @@ use Rattle.writer.specs.Write.{windowsNumber, sumOf, numberOf as writeNumber-of
 use Rattle.lister.specs.Windows.{windowStop, readWindowOf, windowsStop, windowsOf}
 use Rattle.lister.specs.Listing.{preambleAt, headStop, checkStop, streamStop, listStop, listedOf, listingOf}
 use Rattle.closing.specs.Closing.{closingBytes}
-use Rattle.closing.specs.Calls.{writtenNumber, closingOf, closingOutput}
+use Rattle.closing.specs.Calls.{writtenNumber}
 use Rattle.grammar.specs.Stream.{Window, Section}
 use Rattle.chain.specs.Bytes.{Bytes}
 use Rattle.grammar.specs.Fits.{Fitting, Reading}
@@ -80,7 +80,7 @@ whole = record { started = refl; number = refl; taken = refl }
 
 -- at the stop before the first byte the one closing byte is left out, and the run is still open
 pub short-closing-out : Demand3 shortClosing → ⊥
-unfolding reading sizeOf baseOf knownOf badChain unusedZero wellFormed illFormed stateNumber feedNumber numberOf passedOf advanceOf addressOf memoryOf registersOf missedOf stepOf runOf startNumber startOf fedOf sliceOf sliceMemory closingBytes writtenNumber closingOf closingOutput
+unfolding reading sizeOf baseOf knownOf badChain unusedZero wellFormed illFormed stateNumber feedNumber numberOf passedOf advanceOf addressOf memoryOf registersOf missedOf stepOf runOf startNumber startOf fedOf sliceOf sliceMemory closingBytes writtenNumber
 short-closing-out d =
     let h = d teaching cells0 1 streamA idle-teaching mode-one small whole in
     h .stops reading refl 0 (omega arith) [] [] refl .closes (replicate 9 0) refl .ends refl

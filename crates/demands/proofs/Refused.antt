@@ -65,7 +65,6 @@ save-refused c m out = nothing-written (saveNumber c (length m) (length out)) (s
 
 pub closing-refused : (c : Chain) (m out : List ℕ) → closingOf c m (length out) .number ≢ done
     → NothingWritten (closingOf c m (length out) .length) out (closingOutput c m out)
-unfolding closingOf closingOutput
 closing-refused c m out = nothing-written (writtenNumber c m (length out)) (closingBytes c m) out
 
 pub hunt-refused : (s out : List ℕ) → huntOf s (length out) .number ≢ done → NothingWritten (huntOf s (length out) .length) out (huntOut s out)

@@ -21,7 +21,7 @@ use Rattle.machine.specs.Calls.{answered, fedOf}
 use Rattle.machine.proofs.Keeps.{run-open}
 use Rattle.machine.proofs.Runs.{run-lasts}
 use Rattle.closing.specs.Closing.{closingBytes}
-use Rattle.closing.specs.Calls.{writtenNumber, closingOf, closingOutput}
+use Rattle.closing.specs.Calls.{writtenNumber}
 use Rattle.closing.proofs.Closes.{closes, room-enough}
 use Rattle.grammar.specs.Fits.{Reading, meant, Clear}
 use Rattle.grammar.specs.Stores.{walkOf}
@@ -52,14 +52,12 @@ record Shuts (s : Chain) (m cs : List ℕ) : Type 0 where
 module _ (s : Chain) (m : List ℕ) (eight : length (s .kinds) ≡ 8) (sound : feedNumber s (length m) ≡ done) where
   -- where it answers 0, what it offers closes the run
   shuts : (out : List ℕ) → ours .closing s m out .written .number ≡ done → Shuts s m (offered (ours .closing s m out))
-  unfolding closingOf closingOutput
   shuts out e =
       let c = closes s m eight (feed-is-open s (length m) sound) in
       rw (eq-eqb (writtenNumber s m (length out)) done e, take-append-seam (closingBytes s m) (drop (length (closingBytes s m)) out))
       (record { ends = λ e. c .over (sym (c .number) ∙ e); late = c .late; cells = c .memory; regs = c .registers })
 
   room : (out : List ℕ) → sizeHere s + 3 ≤ length out → ours .closing s m out .written .number ≡ done
-  unfolding closingOf
   room out e = room-enough s m (length out) eight (feed-is-open s (length m) sound) e
 
 -- ---- what a slice answers, by whether its run is over

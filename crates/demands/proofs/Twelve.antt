@@ -6,11 +6,11 @@ use Rattle.machine.specs.Byte.{numberOf, passedOf, advanceOf}
 use Rattle.machine.specs.Run.{addressOf, memoryOf, registersOf, missedOf, stepOf, runOf}
 use Rattle.machine.specs.Calls.{startNumber, startOf, fedOf, sliceOf, sliceMemory}
 use Rattle.closing.specs.Closing.{closingBytes}
-use Rattle.closing.specs.Calls.{writtenNumber, closingOf, closingOutput}
+use Rattle.closing.specs.Calls.{writtenNumber}
 use Rattle.hunt.specs.Bits.{bitAt, bitsFrom, byteAt, bytesFrom, wholeFrom}
 use Rattle.hunt.specs.Hunt.{beginsAt, firstFrom, foundAt, huntedBytes, huntNumber, huntOf, huntOut}
 use Rattle.demands.specs.Cases.{table, All}
 
 pub twelve : All 1 table
-unfolding sizeOf baseOf knownOf badChain unusedZero wellFormed illFormed stateNumber feedNumber firstOnly chainNumber newOf numberOf passedOf advanceOf addressOf memoryOf registersOf missedOf stepOf runOf startNumber startOf fedOf sliceOf sliceMemory closingBytes writtenNumber closingOf closingOutput bitAt bitsFrom byteAt bytesFrom wholeFrom beginsAt firstFrom foundAt huntedBytes huntNumber huntOf huntOut
+unfolding sizeOf baseOf knownOf badChain unusedZero wellFormed illFormed stateNumber feedNumber firstOnly chainNumber newOf numberOf passedOf advanceOf addressOf memoryOf registersOf missedOf stepOf runOf startNumber startOf fedOf sliceOf sliceMemory closingBytes writtenNumber bitAt bitsFrom byteAt bytesFrom wholeFrom beginsAt firstFrom foundAt huntedBytes huntNumber huntOf huntOut
 twelve = tt
