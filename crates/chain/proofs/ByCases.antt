@@ -1,8 +1,10 @@
--- By cases: of a test, and of a number below n. Assumes nothing.
+-- By cases: of a test, of two numbers equal or not, and of a number below n. Assumes nothing.
 use Prim.Native.Nat.{ℕ, zero, suc, _<_}
 use mathlib.Core.Bool.{Bool, true, false}
 use mathlib.Core.Path.{_≡_, refl, sym, subst}
 use mathlib.Core.Logic.{⊎-elim}
+use borrow.Author.Tests.{eqb-true, eqb-false}
+use lib.Dec.{eqb}
 use native.Mathlib.Nat.{not-suc-le-zero, eq-or-lt-of-le, le-of-suc-le-suc}
 use Rattle.chain.specs.Rules.{pick}
 
@@ -10,6 +12,10 @@ use Rattle.chain.specs.Rules.{pick}
 pub by-test {ℓ} : {P : Type ℓ} (b : Bool) → (b ≡ true → P) → (b ≡ false → P) → P
 by-test true f g = f refl
 by-test false f g = g refl
+
+-- of two numbers
+pub by-eq {ℓ} : {P : Type ℓ} (x y : ℕ) → (x ≡ y → P) → ((x ≡ y → ⊥) → P) → P
+by-eq x y f g = by-test (eqb x y) (λ e. f (eqb-true x y e)) (λ e. g (eqb-false x y e))
 
 -- of what the test picks
 pub either-way {ℓ} : {A : Type 0} (P : A → Type ℓ) (t : Bool) (x y : A) → P x → P y → P (pick t x y)

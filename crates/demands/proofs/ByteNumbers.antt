@@ -13,8 +13,9 @@ use Rattle.chain.specs.Table.{NoneOf, Running}
 use Rattle.chain.proofs.Table.{has, before, Condition, none-of, row-of, feed-takes}
 use Rattle.chain.proofs.Sound.{feed-sound}
 use Rattle.machine.specs.Byte.{nextDevice, numberOf}
+use Rattle.machine.proofs.Slices.{slice-number}
 use Rattle.demands.specs.ByteTable.{Awaits, Begins, BeginsWith, Five, Six, Seven, Eight, Nine, Ten, ownTable, sliceNumber, ByteNumbers}
-use Rattle.demands.proofs.ByteTables.{own-table, slice-on, run-one}
+use Rattle.demands.proofs.ByteTables.{own-table, run-one}
 
 module _ (c : Chain) (b : ℕ) where
   -- what the awaited byte rules out
@@ -94,7 +95,7 @@ module _ (c : Chain) (b : ℕ) where
       }
 
 pub byte-numbers : (c : Chain) (m : List ℕ) (b : ℕ) → Running c m → ByteNumbers (sliceNumber c m (b ∷ [])) c b
-byte-numbers c m b k = rw (slice-on c m (b ∷ []) (feed-takes c m .1 k) ∙ run-one c m b) (own-numbers c b)
+byte-numbers c m b k = rw (slice-number c m (b ∷ []) (feed-takes c m .1 k) ∙ run-one c m b) (own-numbers c b)
 
 -- in such a state the next device is one further
 pub next-device : (c : Chain) (m : List ℕ) → Running c m → nextDevice (c .place) ≡ c .place .device + 1

@@ -14,7 +14,7 @@ use Rattle.chain.specs.Rules.{firstOf}
 use Rattle.chain.specs.State.{feedRules, feedNumber}
 use Rattle.chain.specs.WellFormed.{Sets}
 use Rattle.chain.specs.Table.{Table}
-use Rattle.chain.proofs.ByCases.{by-test}
+use Rattle.chain.proofs.ByCases.{by-test, by-eq}
 use Rattle.chain.proofs.Means.{Means, m-map, reads}
 use Rattle.chain.proofs.Numbers.{feed-gives, feed-passes}
 use Rattle.chain.proofs.Table.{Same, table, feed-same, table-reads}
@@ -23,7 +23,7 @@ use Rattle.machine.specs.Byte.{awaits, nextDevice, begins, registerBegun, byteR
 use Rattle.machine.specs.Run.{run, runOf}
 use Rattle.machine.specs.Calls.{sliceOf}
 use Rattle.machine.proofs.Runs.{step-number}
-use Rattle.machine.proofs.Slices.{slice-runs, slice-refused, fed-number}
+use Rattle.machine.proofs.Slices.{slice-refused, slice-number}
 use Rattle.demands.specs.ByteTable.{Awaits, BeginsWith, ownTable, byteTable, sliceNumber}
 
 -- ---- B2 that would begin a device
@@ -70,13 +70,8 @@ own-table c b = table (byteRules c b) (ownTable c b) more tt (own-same c b)
 
 -- ---- the byte call
 
--- in a state that takes a slice the run is fed, and else nothing is
-module _ (c : Chain) (m s : List ℕ) where
-  pub slice-on : feedNumber c (length m) ≡ done → sliceNumber c m s ≡ runOf (run c m more) s .number
-  slice-on e = ap (λ (f : Fed). f .answer .number) (slice-runs c m s e .0) ∙ fed-number (runOf (run c m more) s)
-
-  pub slice-off : feedNumber c (length m) ≢ done → sliceNumber c m s ≡ feedNumber c (length m)
-  slice-off h = ap (λ (f : Fed). f .answer .number) (slice-refused c m s h .0)
+pub slice-off : (c : Chain) (m s : List ℕ) → feedNumber c (length m) ≢ done → sliceNumber c m s ≡ feedNumber c (length m)
+slice-off c m s h = ap (λ (f : Fed). f .answer .number) (slice-refused c m s h .0)
 
 pub run-one : (c : Chain) (m : List ℕ) (b : ℕ) → runOf (run c m more) (b ∷ []) .number ≡ numberOf c b
 unfolding runOf
@@ -85,13 +80,9 @@ run-one c m b = step-number c m b
 byte-number : (c : Chain) (m : List ℕ) (b : ℕ) → sliceNumber c m (b ∷ []) ≡ firstOf (feedRules c (length m) (byteRules c b)) more
 unfolding numberOf
 byte-number c m b =
-    by-test (eqb (feedNumber c (length m)) done)
-    (λ e.
-    let z = eqb-true (feedNumber c (length m)) done e in
-    slice-on c m (b ∷ []) z ∙ run-one c m b ∙ sym (feed-passes c (length m) (byteRules c b) more z))
-    (λ e.
-    let z = eqb-false (feedNumber c (length m)) done e in
-    slice-off c m (b ∷ []) z ∙ sym (feed-gives c (length m) (byteRules c b) more z))
+    by-eq (feedNumber c (length m)) done
+    (λ z. slice-number c m (b ∷ []) z ∙ run-one c m b ∙ sym (feed-passes c (length m) (byteRules c b) more z))
+    (λ z. slice-off c m (b ∷ []) z ∙ sym (feed-gives c (length m) (byteRules c b) more z))
 
 pub byte-table : (c : Chain) (m : List ℕ) (b : ℕ) → Table (sliceOf c m (b ∷ []) .answer .number) (byteTable c m b) more
 byte-table c m b =

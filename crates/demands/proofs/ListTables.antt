@@ -23,6 +23,7 @@ use Rattle.machine.specs.Run.{Run, run, stepOf, runOf}
 use Rattle.machine.proofs.Started.{opened-feeds}
 use Rattle.machine.specs.Calls.{openedPlace, startNumber, startOf}
 use Rattle.machine.proofs.Runs.{step-number}
+use Rattle.machine.proofs.Slices.{slice-number}
 use Rattle.machine.proofs.Feed.{first-on, first-off}
 use Rattle.lister.specs.declared.stream.Stop.{Stop}
 use Rattle.lister.specs.declared.Listed.{Listed}
@@ -37,7 +38,6 @@ use Rattle.chain.proofs.Table.{table, table-reads}
 use Rattle.demands.specs.ByteTable.{sliceNumber}
 use Rattle.demands.specs.ListTable.{freshRun, ownNumber, listTable}
 use Rattle.demands.specs.Demand1.{ListRefused}
-use Rattle.demands.proofs.ByteTables.{slice-on}
 
 -- ---- a freshly reset device, and a write started on it
 
@@ -156,7 +156,7 @@ module _ (kind mode : ℕ) (s : List ℕ) (small : Bytes s) where
     own-run : ownNumber kind mode s ≡ runOf (run (started kind known mode inside) memory more) s .number
     own-run =
         ap (λ (c : Chain). sliceNumber c memory s) (start-is kind known mode inside)
-        ∙ slice-on (started kind known mode inside) memory s (opens kind known mode inside memory (length-replicate (sizeOf kind) 0))
+        ∙ slice-number (started kind known mode inside) memory s (opens kind known mode inside memory (length-replicate (sizeOf kind) 0))
 
     own-stream : streamStop (sizeOf kind) mode s .number ≡ ownNumber kind mode s
     own-stream =

@@ -21,7 +21,7 @@ use Rattle.machine.specs.Run.{Run, run, ended, runOf}
 use Rattle.machine.specs.Calls.{startNumber, startOf, fedOf, sliceOf, sliceMemory}
 use Rattle.machine.proofs.Feed.{run-append, run-over}
 use Rattle.machine.proofs.Runs.{run-ended}
-use Rattle.machine.proofs.Slices.{slice-runs, slice-refused as refused, fed-more, fed-over, slice-open}
+use Rattle.machine.proofs.Slices.{slice-runs, slice-refused as refused, fed-more, fed-over, slice-number, more-feeds, slice-open}
 use Rattle.saved.specs.Layout.{frontBytes, savedBytes}
 use Rattle.saved.specs.Calls.{saveNumber, saveOf, saveOutput, pickUpNumber, pickUpOf}
 use Rattle.closing.specs.Closing.{closingBytes}
@@ -32,8 +32,8 @@ use Rattle.writer.specs.Write.{writeNumber, writeOf, writeOutput}
 use Rattle.chain.specs.Bytes.{Bytes}
 use Rattle.demands.specs.ByteTable.{sliceNumber}
 use Rattle.demands.specs.Demand1.{AsLent, Ended, EndedAt, ByteEnded}
-use Rattle.demands.proofs.ByteTables.{slice-on, run-one}
-use Rattle.demands.proofs.SliceTables.{open-of, at-byte}
+use Rattle.demands.proofs.ByteTables.{run-one}
+use Rattle.demands.proofs.SliceTables.{at-byte}
 
 -- ---- calls that hand a state back
 
@@ -108,7 +108,7 @@ ended-by c m s d k n z e h =
 pub byte-ended : (c : Chain) (m : List ℕ) (b : ℕ) → Running c m → sliceNumber c m (b ∷ []) ≢ more → ByteEnded c m b
 byte-ended c m b k n =
     let z = feed-takes c m .1 k in
-    let ends : numberOf c b ≢ more = λ e. n (slice-on c m (b ∷ []) z ∙ run-one c m b ∙ e) in
+    let ends : numberOf c b ≢ more = λ e. n (slice-number c m (b ∷ []) z ∙ run-one c m b ∙ e) in
     ended-by c m (b ∷ []) c m (numberOf c b) z (run-ended c m b [] ends) ends
 
 module _ (c : Chain) (m s : List ℕ) (k : ℕ) (l : k < length s) (h : sliceNumber c m (take k s) ≡ more) (n : sliceNumber c m (take (suc k) s) ≢ more) where
@@ -116,10 +116,10 @@ module _ (c : Chain) (m s : List ℕ) (k : ℕ) (l : k < length s) (h : sliceNum
   before = runOf (run c m more) (take k s)
 
   z : feedNumber c (length m) ≡ done
-  z = open-of c m (take k s) h
+  z = more-feeds c m (take k s) h
 
   still : before .number ≡ more
-  still = sym (slice-on c m (take k s) z) ∙ h
+  still = sym (slice-number c m (take k s) z) ∙ h
 
   abbrev number : ℕ
   number = numberOf (before .chain) (getD s k 0)
@@ -134,7 +134,7 @@ module _ (c : Chain) (m s : List ℕ) (k : ℕ) (l : k < length s) (h : sliceNum
   whole =
       ap (λ (x : List ℕ). runOf (run c m more) x) (sym (take-append-drop (suc k) s))
       ∙ run-append (take (suc k) s) (drop (suc k) s) (run c m more)
-      ∙ run-over (drop (suc k) s) (runOf (run c m more) (take (suc k) s)) (λ e. n (slice-on c m (take (suc k) s) z ∙ e))
+      ∙ run-over (drop (suc k) s) (runOf (run c m more) (take (suc k) s)) (λ e. n (slice-number c m (take (suc k) s) z ∙ e))
       ∙ ap (λ (x : List ℕ). runOf (run c m more) x) (take-suc s k 0 l)
       ∙ run-append (take k s) (getD s k 0 ∷ []) (run c m more)
       ∙ ap (λ (i : ℕ). runOf (run (before .chain) (before .memory) i) (getD s k 0 ∷ [])) still

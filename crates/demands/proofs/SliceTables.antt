@@ -5,8 +5,8 @@ use mathlib.Core.Logic.{_↔_, _⊎_, inl, inr, ⊎-elim, _≢_}
 use mathlib.Core.Path.{_≡_, refl, sym, ap, subst, _∙_}
 use mathlib.Core.List.{List, [], _∷_, _++_}
 use native.Mathlib.Omega.{arith}
-use borrow.Author.Tests.{eqb-true, eqb-false, eq-eqb, leb-true, leb-false}
-use lib.Dec.{eqb, leb}
+use borrow.Author.Tests.{eq-eqb, leb-true, leb-false}
+use lib.Dec.{leb}
 use lib.ListN.{length, getD, take, drop, take-append-drop}
 use lib.Seq.{take-suc, take-take, take-length}
 use Rattle.chain.specs.declared.Chain.{Chain}
@@ -14,9 +14,8 @@ use Rattle.chain.specs.Paper.{done, more}
 use Rattle.chain.specs.Rules.{Rule, _gives_, firstOf}
 use Rattle.chain.specs.State.{feedRules, feedNumber}
 use Rattle.chain.specs.Table.{NoneOf, Table}
-use Rattle.chain.proofs.ByCases.{by-test}
+use Rattle.chain.proofs.ByCases.{by-test, by-eq}
 use Rattle.chain.proofs.Means.{Means}
-use Rattle.chain.proofs.Sound.{feed-never-more}
 use Rattle.chain.proofs.Numbers.{feed-gives, feed-passes}
 use Rattle.chain.proofs.Table.{Same, row, end, Alike, like, same, same-alike, table, else-of, feed-same}
 use Rattle.machine.specs.declared.Fed.{Fed}
@@ -25,9 +24,9 @@ use Rattle.machine.specs.Run.{Run, run, runOf}
 use Rattle.machine.specs.Calls.{fedOf, sliceOf}
 use Rattle.machine.proofs.Feed.{run-append, run-over}
 use Rattle.machine.proofs.Runs.{step-number}
-use Rattle.machine.proofs.Slices.{slice-runs, fed-more}
+use Rattle.machine.proofs.Slices.{slice-runs, fed-more, slice-number, more-feeds}
 use Rattle.demands.specs.ByteTable.{ByteClaim, _whenever_, byteClaims, claimsOf, ownTable, sliceNumber, AtSome, sliceTable}
-use Rattle.demands.proofs.ByteTables.{own-same, own-table, slice-on, slice-off}
+use Rattle.demands.proofs.ByteTables.{own-same, own-table, slice-off}
 
 -- a condition that a byte's number ends the run by
 abbrev Ends : (Chain → ℕ → Type 0) → Type 0
@@ -37,10 +36,8 @@ Ends P = (c : Chain) (b : ℕ) → P c b → numberOf c b ≢ more
 
 front-open : (xs ys : List ℕ) (r : Run) → runOf r (xs ++ ys) .number ≡ more → runOf r xs .number ≡ more
 front-open xs ys r h =
-    by-test (eqb (runOf r xs .number) more) (λ e. eqb-true (runOf r xs .number) more e)
-    (λ e.
-    let f = eqb-false (runOf r xs .number) more e in
-    absurd (f (sym (ap (λ (x : Run). x .number) (run-append xs ys r ∙ run-over ys (runOf r xs) f)) ∙ h)))
+    by-eq (runOf r xs .number) more (λ e. e)
+    (λ f. absurd (f (sym (ap (λ (x : Run). x .number) (run-append xs ys r ∙ run-over ys (runOf r xs) f)) ∙ h)))
 
 one-number : (b : ℕ) (r : Run) → r .number ≡ more → runOf r (b ∷ []) .number ≡ numberOf (r .chain) b
 unfolding runOf
@@ -54,7 +51,7 @@ turn : (f : ℕ → ℕ) → f 0 ≡ more → (n : ℕ) → (f n ≡ more) ⊎ (
 turn f z zero = inl z
 turn f z (suc n) =
     ⊎-elim
-    (λ h. by-test (eqb (f (suc n)) more) (λ e. inl (eqb-true (f (suc n)) more e)) (λ e. inr (n, omega arith, h, eqb-false (f (suc n)) more e)))
+    (λ h. by-eq (f (suc n)) more (λ e. inl e) (λ e. inr (n, omega arith, h, e)))
     (λ h. inr (h .0, omega (arith, h .1), h .2, h .3))
     (turn f z n)
 
@@ -65,7 +62,7 @@ module _ (c : Chain) (m s : List ℕ) (z : feedNumber c (length m) ≡ done) whe
   after k = runOf (run c m more) (take k s)
 
   number-at : (k : ℕ) → sliceNumber c m (take k s) ≡ after k .number
-  number-at k = slice-on c m (take k s) z
+  number-at k = slice-number c m (take k s) z
 
   chain-at : (k : ℕ) → sliceNumber c m (take k s) ≡ more → sliceOf c m (take k s) .chain ≡ after k .chain
   chain-at k h = ap (λ (f : Fed). f .chain) (slice-runs c m (take k s) z .0) ∙ fed-more (after k) (sym (number-at k) ∙ h)
@@ -187,36 +184,29 @@ module _ (c : Chain) (m s : List ℕ) where
 
   pub slice-table : Table (sliceOf c m s .answer .number) (sliceTable c m s) more
   slice-table =
-      by-test (eqb (feedNumber c (length m)) done)
-      (λ e.
-      let z = eqb-true (feedNumber c (length m)) done e in
+      by-eq (feedNumber c (length m)) done
+      (λ z.
       ⊎-elim
       (λ h.
       let g : sliceNumber c m s ≡ more = ap (sliceNumber c m) (sym (take-length s)) ∙ h in
       none-table (λ P ends. never c m s z P ends g) (g ∙ sym (feed-passes c (length m) (noRules byteClaims) more z)))
       (λ x. end-table z (x .0) (x .1) (x .2) (x .3))
       (turn (λ (k : ℕ). sliceNumber c m (take k s)) (nothing z) (length s)))
-      (λ e.
-      let z = eqb-false (feedNumber c (length m)) done e in
-      none-table (λ P ends a. feed-never-more c (length m) (sym (slice-off c m (take (a .k) s) z) ∙ a .before))
+      (λ z.
+      none-table (λ P ends a. z (more-feeds c m (take (a .k) s) (a .before)))
       (slice-off c m s z ∙ sym (feed-gives c (length m) (noRules byteClaims) more z)))
     where
       nothing : feedNumber c (length m) ≡ done → sliceNumber c m [] ≡ more
-      nothing z = slice-on c m [] z ∙ run-none c m
+      nothing z = slice-number c m [] z ∙ run-none c m
 
 -- ---- byte by byte
-
-pub open-of : (c : Chain) (m xs : List ℕ) → sliceNumber c m xs ≡ more → feedNumber c (length m) ≡ done
-open-of c m xs h =
-    by-test (eqb (feedNumber c (length m)) done) (λ e. eqb-true (feedNumber c (length m)) done e)
-    (λ e. absurd (feed-never-more c (length m) (sym (slice-off c m xs (eqb-false (feedNumber c (length m)) done e)) ∙ h)))
 
 module _ (c : Chain) (m s : List ℕ) (k : ℕ) (l : k < length s) (h : sliceNumber c m (take k s) ≡ more) where
   -- where k bytes gave 16, byte k has the table of its own numbers
   pub next-exact : Table (sliceNumber c m (take (suc k) s)) (ownTable (sliceOf c m (take k s) .chain) (getD s k 0)) more
   next-exact =
-      rw (at-byte c m s (open-of c m (take k s) h) k l h) (own-table (sliceOf c m (take k s) .chain) (getD s k 0))
+      rw (at-byte c m s (more-feeds c m (take k s) h) k l h) (own-table (sliceOf c m (take k s) .chain) (getD s k 0))
 
   -- and a number other than 16 is the slice's, whatever follows
   pub ends-at : sliceNumber c m (take (suc k) s) ≢ more → sliceNumber c m s ≡ sliceNumber c m (take (suc k) s)
-  ends-at n = ap (λ (f : Fed). f .answer .number) (over-at c m s (open-of c m (take k s) h) k n)
+  ends-at n = ap (λ (f : Fed). f .answer .number) (over-at c m s (more-feeds c m (take k s) h) k n)

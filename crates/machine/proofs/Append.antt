@@ -10,14 +10,13 @@ use Rattle.chain.specs.Paper.{most-devices, done, more}
 use Rattle.chain.specs.Rules.{pick}
 use Rattle.chain.specs.State.{feedNumber}
 use Rattle.chain.specs.Bytes.{Bytes}
-use Rattle.chain.proofs.ByCases.{by-test}
-use Rattle.chain.proofs.Sound.{feed-never-more}
+use Rattle.chain.proofs.ByCases.{by-test, by-eq}
 use Rattle.machine.specs.declared.Fed.{Fed}
 use Rattle.machine.specs.Run.{Run, run, runOf}
 use Rattle.machine.specs.Calls.{fedOf, sliceOf, sliceMemory}
 use Rattle.machine.proofs.Feed.{run-append, run-over}
 use Rattle.machine.proofs.Keeps.{run-open}
-use Rattle.machine.proofs.Slices.{slice-runs, slice-refused, fed-more, fed-number}
+use Rattle.machine.proofs.Slices.{slice-runs, slice-refused, fed-more, slice-number, more-feeds}
 
 module _ (c : Chain) (m a b : List ℕ) where
   -- one after the other, and the first alone
@@ -33,9 +32,6 @@ module _ (c : Chain) (m a b : List ℕ) where
   module _ (o : feedNumber c (length m) ≡ done) where
     abbrev mid : Run
     mid = runOf (run c m more) a
-
-    mid-number : sliceOf c m a .answer .number ≡ mid .number
-    mid-number = rw (slice-runs c m a o .0) (fed-number mid)
 
     both : Bytes a → length (c .registers) ≡ most-devices → mid .number ≡ more → Both
     both small eight e =
@@ -57,20 +53,13 @@ module _ (c : Chain) (m a b : List ℕ) where
 
   -- where the answer to a is 16
   pub slice-more : Bytes a → length (c .registers) ≡ most-devices → sliceOf c m a .answer .number ≡ more → Both
-  slice-more small eight n =
-      by-test (eqb (feedNumber c (length m)) done)
-      (λ t. let o = eqb-true (feedNumber c (length m)) done t in both o small eight (sym (mid-number o) ∙ n))
-      (λ t.
-      let o = eqb-false (feedNumber c (length m)) done t in
-      absurd (feed-never-more c (length m) (sym (ap (λ (f : Fed). f .answer .number) (slice-refused c m a o .0)) ∙ n)))
+  slice-more small eight n = let o = more-feeds c m a n in both o small eight (sym (slice-number c m a o) ∙ n)
 
   -- where it is not
   pub slice-over : (sliceOf c m a .answer .number ≡ more → ⊥) → First
   slice-over n =
-      by-test (eqb (feedNumber c (length m)) done)
-      (λ t. let o = eqb-true (feedNumber c (length m)) done t in first o (λ e. n (mid-number o ∙ e)))
-      (λ t.
-      let o = eqb-false (feedNumber c (length m)) done t in
+      by-eq (feedNumber c (length m)) done (λ o. first o (λ e. n (slice-number c m a o ∙ e)))
+      (λ o.
       let whole = slice-refused c m (a ++ b) o in
       let one = slice-refused c m a o in
       (whole .0 ∙ sym (one .0), whole .1 ∙ sym (one .1)))

@@ -2,7 +2,7 @@
 use Prim.Native.Nat.{ℕ}
 use mathlib.Core.Path.{_≡_, refl, ap, sym, _∙_}
 use mathlib.Core.List.{List}
-use borrow.Author.Tests.{ne-eqb, eqb-true, eqb-false}
+use borrow.Author.Tests.{ne-eqb}
 use lib.Dec.{eqb}
 use lib.ListN.{length}
 use Rattle.chain.specs.declared.Chain.{Chain}
@@ -10,7 +10,7 @@ use Rattle.chain.specs.Paper.{most-devices, done, more}
 use Rattle.chain.specs.Set.{with·place, closedPlace}
 use Rattle.chain.specs.State.{stateNumber, feedNumber}
 use Rattle.chain.specs.Bytes.{Bytes}
-use Rattle.chain.proofs.ByCases.{by-test, either-way}
+use Rattle.chain.proofs.ByCases.{by-test, by-eq, either-way}
 use Rattle.chain.proofs.Sound.{feed-is-taken, feed-never-more}
 use Rattle.machine.specs.declared.Fed.{Fed}
 use Rattle.machine.specs.Run.{Run, run, runOf}
@@ -49,6 +49,15 @@ module _ (c : Chain) (m s : List ℕ) where
   abbrev fed : Run
   fed = runOf (run c m more) s
 
+  pub slice-number : feedNumber c (length m) ≡ done → sliceOf c m s .answer .number ≡ fed .number
+  slice-number o = ap (λ (f : Fed). f .answer .number) (slice-runs c m s o .0) ∙ fed-number fed
+
+  -- 16 comes from a run alone
+  pub more-feeds : sliceOf c m s .answer .number ≡ more → feedNumber c (length m) ≡ done
+  more-feeds n =
+      by-eq (feedNumber c (length m)) done (λ o. o)
+      (λ o. absurd (feed-never-more c (length m) (ap (λ (f : Fed). f .answer .number) (sym (slice-refused c m s o .0)) ∙ n)))
+
   -- count and kinds are the chain's, registers and memory keep their lengths
   pub slice-lasts : Lasts (run c m more) (run (sliceOf c m s .chain) (sliceMemory c m s) more)
   unfolding sliceOf sliceMemory fedOf
@@ -66,31 +75,19 @@ module _ (c : Chain) (m s : List ℕ) where
     -- a state that takes the next slice
     pub slice-open : sliceOf c m s .answer .number ≡ more → feedNumber (sliceOf c m s .chain) (length (sliceMemory c m s)) ≡ done
     slice-open n =
-        by-test (eqb (feedNumber c (length m)) done)
-        (λ t.
-        let o = eqb-true (feedNumber c (length m)) done t in
+        let o = more-feeds n in
         let r = slice-runs c m s o in
-        let e : fed .number ≡ more = sym (fed-number fed) ∙ ap (λ (f : Fed). f .answer .number) (sym (r .0)) ∙ n in
-        rw (r .0, r .1, fed-more fed e) (run-open c m s small eight o e))
-        (λ t.
-        let o = eqb-false (feedNumber c (length m)) done t in
-        absurd (feed-never-more c (length m) (ap (λ (f : Fed). f .answer .number) (sym (slice-refused c m s o .0)) ∙ n)))
+        let e = sym (slice-number o) ∙ n in
+        rw (r .0, r .1, fed-more fed e) (run-open c m s small eight o e)
 
     -- a state that every call takes, if it was one before
     pub slice-taken : stateNumber c (length m) ≡ done → stateNumber (sliceOf c m s .chain) (length (sliceMemory c m s)) ≡ done
     slice-taken h =
-        by-test (eqb (feedNumber c (length m)) done)
-        (λ t.
-        let o = eqb-true (feedNumber c (length m)) done t in
+        by-eq (feedNumber c (length m)) done
+        (λ o.
         let r = slice-runs c m s o in
         rw (r .0, r .1)
-        (by-test (eqb (fed .number) more)
-        (λ u.
-        let e = eqb-true (fed .number) more u in
-        rw (fed-more fed e) (feed-is-taken (fed .chain) (length (fed .memory)) (run-open c m s small eight o e)))
-        (λ u.
-        let e = eqb-false (fed .number) more u in
-        rw (fed-over fed e) (run-closed c m s small eight o e))))
-        (λ t.
-        let r = slice-refused c m s (eqb-false (feedNumber c (length m)) done t) in
-        rw (r .0, r .1) h)
+        (by-eq (fed .number) more
+        (λ e. rw (fed-more fed e) (feed-is-taken (fed .chain) (length (fed .memory)) (run-open c m s small eight o e)))
+        (λ e. rw (fed-over fed e) (run-closed c m s small eight o e))))
+        (λ o. let r = slice-refused c m s o in rw (r .0, r .1) h)
