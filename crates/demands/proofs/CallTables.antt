@@ -11,15 +11,15 @@ use lib.ListN.{length}
 use Rattle.chain.specs.declared.Chain.{Chain}
 use Rattle.chain.specs.Paper.{closed, opened, done, bad-chain, run-open, ill-formed}
 use Rattle.chain.specs.Rules.{_gives_, firstOf}
-use Rattle.chain.specs.State.{badChain, illFormed}
+use Rattle.chain.specs.State.{badChain, illFormed, openRules, openNumber}
 use Rattle.chain.specs.Calls.{chainRules, chainNumber, newOf, resetOf}
 use Rattle.chain.proofs.ByCases.{by-test}
-use Rattle.machine.specs.Calls.{startRules, startNumber, startOf}
+use Rattle.machine.specs.Calls.{startRules, startNumber, startOf, dropOf}
 use Rattle.saved.specs.Layout.{wellSaved}
 use Rattle.saved.specs.Calls.{saveRules, saveNumber, saveOf, pickUpNumber, pickUpOf}
 use Rattle.closing.specs.Calls.{closingRules, writtenNumber, closingOf}
 use Rattle.chain.specs.WellFormed.{BadChain, IllFormed}
-use Rattle.chain.specs.Table.{Claim, _when_, Table, chainTable}
+use Rattle.chain.specs.Table.{Claim, _when_, Table, chainTable, openTable}
 use Rattle.chain.proofs.Means.{m-none}
 use Rattle.chain.proofs.WellFormed.{m-ill-formed}
 use Rattle.chain.proofs.Table.{table, row-of, else-of, state-reads}
@@ -38,6 +38,10 @@ reset-table c m = table (chainRules (c .count) (c .kinds) (length m)) (chainTabl
 pub start-table : (c : Chain) (m : List ℕ) (mode check : ℕ) → Table (startOf c (length m) mode check .number) (startTable c m mode) done
 unfolding startOf startNumber
 start-table c m mode check = table (startRules c (length m) mode) (startTable c m mode) done tt (search state-reads depth 40)
+
+pub drop-table : (c : Chain) (m : List ℕ) → Table (dropOf c (length m) .number) (openTable c m []) done
+unfolding dropOf openNumber
+drop-table c m = table (openRules c (length m) []) (openTable c m []) done tt (search state-reads depth 40)
 
 pub save-table : (c : Chain) (m out : List ℕ) → Table (saveOf c (length m) (length out) .number) (saveTable c m out) done
 unfolding saveOf saveNumber

@@ -4,12 +4,13 @@ use mathlib.Core.Logic.{_≢_}
 use mathlib.Core.Path.{_≡_, sym, ap, _∙_}
 use mathlib.Core.List.{List, [], _∷_}
 use native.Mathlib.Nat.{add-zero}
-use borrow.Author.Tests.{ne-eqb}
+use borrow.Author.Tests.{eq-eqb, ne-eqb}
 use lib.ListN.{length, getD, take, drop, take-append-drop}
 use lib.Seq.{take-suc}
 use Rattle.chain.specs.declared.Chain.{Chain}
 use Rattle.chain.specs.Paper.{most-devices, done, more}
-use Rattle.chain.specs.State.{feedNumber}
+use Rattle.chain.specs.Set.{with·place, closedPlace}
+use Rattle.chain.specs.State.{openNumber, feedNumber}
 use Rattle.chain.specs.Calls.{noChain, chainNumber, newOf, resetOf, resetMemory}
 use Rattle.chain.specs.Output.{NothingWritten}
 use Rattle.chain.specs.Table.{Running}
@@ -18,7 +19,7 @@ use Rattle.chain.proofs.Table.{feed-takes}
 use Rattle.machine.specs.declared.Fed.{Fed}
 use Rattle.machine.specs.Byte.{numberOf}
 use Rattle.machine.specs.Run.{Run, run, ended, runOf}
-use Rattle.machine.specs.Calls.{startNumber, startOf, fedOf, sliceOf, sliceMemory}
+use Rattle.machine.specs.Calls.{startNumber, startOf, fedOf, sliceOf, sliceMemory, dropOf}
 use Rattle.machine.proofs.Feed.{run-append, run-over}
 use Rattle.machine.proofs.Runs.{run-ended}
 use Rattle.machine.proofs.Slices.{slice-runs, slice-refused as refused, fed-more, fed-over, slice-number, more-feeds, slice-open}
@@ -51,6 +52,14 @@ reset-refused c m h =
 pub start-refused : (c : Chain) (m : List ℕ) (mode check : ℕ) → startOf c (length m) mode check .number ≢ done → startOf c (length m) mode check .chain ≡ c
 unfolding startOf
 start-refused c m mode check h = rw (ne-eqb (startNumber c (length m) mode) done h)
+
+pub drop-refused : (c : Chain) (m : List ℕ) → dropOf c (length m) .number ≢ done → dropOf c (length m) .chain ≡ c
+unfolding dropOf
+drop-refused c m h = rw (ne-eqb (openNumber c (length m)) done h)
+
+pub drop-done : (c : Chain) (m : List ℕ) → dropOf c (length m) .number ≡ done → dropOf c (length m) .chain ≡ with·place c closedPlace
+unfolding dropOf
+drop-done c m h = rw (eq-eqb (openNumber c (length m)) done h)
 
 pub pick-up-refused : (c : Chain) (m s : List ℕ) → pickUpOf c (length m) s .number ≢ done → pickUpOf c (length m) s .chain ≡ c
 unfolding pickUpOf

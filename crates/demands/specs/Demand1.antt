@@ -10,7 +10,7 @@ use Rattle.chain.specs.Set.{with·place, closedPlace}
 use Rattle.chain.specs.Calls.{noChain, newOf, resetOf, resetMemory}
 use Rattle.chain.specs.Output.{NothingWritten}
 use Rattle.machine.specs.declared.Fed.{Fed}
-use Rattle.machine.specs.Calls.{startOf, sliceOf, sliceMemory}
+use Rattle.machine.specs.Calls.{startOf, sliceOf, sliceMemory, dropOf}
 use Rattle.saved.specs.Calls.{saveOf, saveOutput, pickUpOf}
 use Rattle.closing.specs.Calls.{closingOf, closingOutput}
 use Rattle.hunt.specs.Hunt.{huntOf, huntOut}
@@ -18,7 +18,7 @@ use Rattle.writer.specs.Write.{writeOf, writeOutput}
 use Rattle.lister.specs.declared.Listed.{Listed}
 use Rattle.lister.specs.Listing.{preambleAt, listedOf, listed, Lists}
 use Rattle.chain.specs.Bytes.{Bytes}
-use Rattle.chain.specs.Table.{Table, chainTable, Running}
+use Rattle.chain.specs.Table.{Table, chainTable, openTable, Running}
 use Rattle.demands.specs.Table.{startTable, closingTable, saveTable, PickUpNumbers, huntTable, writeTable}
 use Rattle.demands.specs.ByteTable.{byteTable, sliceNumber, sliceTable, ByteNumbers}
 use Rattle.demands.specs.ListTable.{listTable}
@@ -31,6 +31,7 @@ pub record Numbers : Type 0 where
   pub byte : (c : Chain) (m : List ℕ) (b : ℕ) → Table (sliceOf c m (b ∷ []) .answer .number) (byteTable c m b) more
   pub byte-own : (c : Chain) (m : List ℕ) (b : ℕ) → Running c m → ByteNumbers (sliceNumber c m (b ∷ [])) c b
   pub slice : (c : Chain) (m s : List ℕ) → Table (sliceOf c m s .answer .number) (sliceTable c m s) more
+  pub drop : (c : Chain) (m : List ℕ) → Table (dropOf c (length m) .number) (openTable c m []) done
   pub closing : (c : Chain) (m out : List ℕ) → Table (closingOf c m (length out) .number) (closingTable c m out) done
   pub save : (c : Chain) (m out : List ℕ) → Table (saveOf c (length m) (length out) .number) (saveTable c m out) done
   pub pick-up : (c : Chain) (m s : List ℕ) → PickUpNumbers c m s
@@ -87,6 +88,9 @@ pub record Refusals : Type 0 where
   -- 16 leaves the run open after those bytes: the state takes the next one. That bytes are below 256, and registers eight, the types say
   pub slice-more : (c : Chain) (m s : List ℕ) → Bytes s → length (c .registers) ≡ most-devices → sliceNumber c m s ≡ more
       → Running (sliceOf c m s .chain) (sliceMemory c m s)
+  pub drop : (c : Chain) (m : List ℕ) → dropOf c (length m) .number ≢ done → dropOf c (length m) .chain ≡ c
+  -- and a drop that is done closes the place and leaves the rest
+  pub dropped : (c : Chain) (m : List ℕ) → dropOf c (length m) .number ≡ done → dropOf c (length m) .chain ≡ with·place c closedPlace
   pub closing : (c : Chain) (m out : List ℕ) → closingOf c m (length out) .number ≢ done
       → NothingWritten (closingOf c m (length out) .length) out (closingOutput c m out)
   pub save : (c : Chain) (m out : List ℕ) → saveOf c (length m) (length out) .number ≢ done
