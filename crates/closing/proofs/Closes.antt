@@ -1,14 +1,14 @@
 -- The law of closing bytes: in every state whose run the calls take as open they end it, at exactly their last byte, and change no cell and no
 -- register; they are at most size + 3. Assumes nothing.
-use Prim.Native.Nat.{ℕ, zero, suc, _+_, _-_, _/_, _*_, _%_, _^_, _<_, _≤_}
+use Prim.Native.Nat.{ℕ, suc, _+_, _-_, _/_, _*_, _%_, _^_, _<_, _≤_}
 use mathlib.Core.Bool.{false, _&&_}
-use mathlib.Core.Path.{_≡_, refl, ap, sym, subst, _∙_}
+use mathlib.Core.Path.{_≡_, refl, ap, _∙_}
 use mathlib.Core.List.{List, [], _∷_}
-use native.Mathlib.Nat.{not-suc-le-zero, div-add-mod'}
+use native.Mathlib.Nat.{div-add-mod'}
 use native.Mathlib.Omega.{arith}
 use lib.Dec.{eqb, ltb}
 use lib.ListN.{length, take, drop, length-append, length-take}
-use borrow.Author.Tests.{eqb-true, eqb-false, ne-eqb, le-ltb, ltb-true, ltb-false}
+use borrow.Author.Tests.{eqb-true, ne-eqb, le-ltb, ltb-true, ltb-false}
 use Rattle.chain.proofs.ByCases.{by-test, no-case, _or_, below}
 use Rattle.chain.proofs.FirstOf.{first-never}
 use Rattle.chain.proofs.Sound.{feed-is-open}
