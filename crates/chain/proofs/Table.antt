@@ -13,7 +13,7 @@ use Rattle.chain.specs.Paper.{closed, done}
 use Rattle.chain.specs.Rules.{Rule, _gives_, firstOf}
 use Rattle.chain.specs.State.{feedRules, feedNumber}
 use Rattle.chain.specs.Table.{Claim, _when_, NoneOf, TableAfter, Table, feedTable, Running}
-use Rattle.chain.proofs.FirstOf.{None, other, other-than, first-none, none-first, first-never, first-passes}
+use Rattle.chain.proofs.FirstOf.{None, other, other-than, first-none, none-first, first-never}
 use Rattle.chain.proofs.Means.{Means, m-map, m-none, m-eq, reads}
 use Rattle.chain.proofs.BadChain.{m-bad-chain}
 use Rattle.chain.proofs.WellFormed.{m-ill-formed}

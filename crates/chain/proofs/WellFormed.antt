@@ -1,23 +1,23 @@
 -- Number 17: the test for the paragraph 'Well formed' says what its proposition says, and so does the test of a state. Assumes nothing.
 use Prim.Native.Nat.{ℕ, zero, suc, _+_, _-_, _≤_, zero-le}
-use mathlib.Core.Bool.{Bool, true, false, not, _&&_, _||_, false≢true, true≢false}
+use mathlib.Core.Bool.{Bool, true, false, not, _&&_, _||_, true≢false}
 use mathlib.Core.Logic.{_⊎_, inl, inr, ⊎-elim, _≢_}
 use mathlib.Core.Path.{_≡_, refl, sym, ap, _∙_}
 use mathlib.Core.List.{List, [], _∷_}
 use native.Mathlib.Omega.{arith}
-use borrow.Author.Tests.{eqb-true, eqb-false, eq-eqb}
-use lib.Dec.{eqb, leb, lit≤}
+use borrow.Author.Tests.{eqb-false, eq-eqb, leb-true, leb-false}
+use lib.Dec.{eqb, leb}
 use lib.ListN.{getD, drop}
 use lib.Seq.{getD-drop}
 use Rattle.chain.specs.declared.Chain.{Chain}
 use Rattle.chain.specs.declared.Place.{Place}
-use Rattle.chain.specs.Paper.{at·count, at·null, at·start, at·check, opened, closed, writing, checking}
+use Rattle.chain.specs.Paper.{at·count, at·start, at·start-low, at·end, at·end-low, at·data, opened, closed}
 use Rattle.chain.specs.Kinds.{sizeAt}
 use Rattle.chain.specs.State.{zeros, unusedZero, formed, wellFormed, illFormed}
 use Rattle.chain.specs.WellFormed.{UnusedZero, placeRegister, WellFormed, IllFormed}
 use Rattle.chain.proofs.AllOf.{none, _and_, all-each, each-all, each-row}
-use Rattle.chain.proofs.ByCases.{by-test, no-case, _or_, below}
-use Rattle.chain.proofs.Means.{Means, says, said, m-map, m-none, m-not, reads}
+use Rattle.chain.proofs.ByCases.{by-test, by-eq}
+use Rattle.chain.proofs.Means.{Means, says, said, m-map, m-none, reads}
 
 -- ---- those past the first n
 
@@ -169,34 +169,20 @@ module _ (c : Chain) (g : List ℕ) (p : Place) (f : WellFormed c g p) where
   before-windows l = f .at-0-to-6-and-13 (inl (zero-le, l))
 
   -- where no data byte is awaited the next cell is 0
-  abbrev Early : ℕ → Type 0
-  Early a = p .awaited ≡ a → p .next ≤ p .end
-
   no-next : p .next ≡ 0 → p .next ≤ p .end
   no-next z = omega arith
 
-  no-window : (a : ℕ) → a ≤ at·count → Early a
-  no-window a l e = no-next (before-windows (omega arith) .3)
-
-  no-start : (a : ℕ) → at·null ≤ a → a ≤ at·start → Early a
-  no-start a k l e = no-next (f .at-7-and-8 (omega arith) .2)
-
   pub next-le-end : p .next ≤ p .end
   next-le-end =
-      below Early 14
-      (no-case
-      or no-window 0 (lit≤ tt)
-      or no-window 1 (lit≤ tt)
-      or no-window 2 (lit≤ tt)
-      or no-window 3 (lit≤ tt)
-      or no-window 4 (lit≤ tt)
-      or no-window 5 (lit≤ tt)
-      or no-window 6 (lit≤ tt)
-      or no-start 7 (lit≤ tt) (lit≤ tt)
-      or no-start 8 (lit≤ tt) (lit≤ tt)
-      or (λ e. no-next (f .at-9 e .2))
-      or (λ e. no-next (f .at-10 e .2))
-      or (λ e. no-next (f .at-11 e .2))
-      or (λ e. f .at-12 e .1)
-      or (λ e. no-next (f .at-0-to-6-and-13 (inr e) .3)))
-      (p .awaited) (omega (arith, f .awaited-0-to-13)) refl
+      by-test (leb (p .awaited) at·count) (λ e. no-next (before-windows (leb-true (p .awaited) at·count e) .3))
+      (λ e.
+      by-test (leb (p .awaited) at·start) (λ d. no-next (f .at-7-and-8 (leb-false (p .awaited) at·count e, leb-true (p .awaited) at·start d) .2))
+      (λ d.
+      by-eq (p .awaited) at·start-low (λ q. no-next (f .at-9 q .2))
+      (λ h.
+      by-eq (p .awaited) at·end (λ q. no-next (f .at-10 q .2))
+      (λ i.
+      by-eq (p .awaited) at·end-low (λ q. no-next (f .at-11 q .2))
+      (λ j.
+      by-eq (p .awaited) at·data (λ q. f .at-12 q .1)
+      (λ k. no-next (f .at-0-to-6-and-13 (inr (omega (arith, f .awaited-0-to-13, leb-false (p .awaited) at·start d))) .3)))))))

@@ -5,7 +5,6 @@ use mathlib.Core.Logic.{_⊎_, inl, inr, ⊎-elim, _≢_}
 use mathlib.Core.Path.{_≡_, refl}
 use mathlib.Core.List.{List, [], _∷_}
 use native.Mathlib.Omega.{arith}
-use borrow.Author.Tests.{eqb-true, eqb-false}
 use lib.Dec.{eqb}
 use lib.ListN.{length}
 use Rattle.chain.specs.declared.Chain.{Chain}
@@ -13,7 +12,7 @@ use Rattle.chain.specs.Paper.{closed, opened, done, bad-chain, run-open, ill-fo
 use Rattle.chain.specs.Rules.{_gives_, firstOf}
 use Rattle.chain.specs.State.{badChain, illFormed, openRules, openNumber}
 use Rattle.chain.specs.Calls.{chainRules, chainNumber, newOf, resetOf}
-use Rattle.chain.proofs.ByCases.{by-test}
+use Rattle.chain.proofs.ByCases.{by-test, by-eq}
 use Rattle.machine.specs.Calls.{startRules, startNumber, startOf, dropOf}
 use Rattle.saved.specs.Layout.{wellSaved}
 use Rattle.saved.specs.Calls.{saveRules, saveNumber, saveOf, pickUpNumber, pickUpOf}
@@ -87,8 +86,7 @@ module _ (c : Chain) (m s : List ℕ) where
   -- a well-formed state is closed or open
   shut : (IllFormed c → ⊥) → c .place .running ≢ opened → c .place .running ≡ closed
   shut f o =
-      by-test (eqb (c .place .running) closed) (λ e. eqb-true (c .place .running) closed e)
-      (λ e. absurd (f (IllFormed.open-place (eqb-false (c .place .running) closed e) (λ w. o (w .0)))))
+      by-eq (c .place .running) closed (λ e. e) (λ e. absurd (f (IllFormed.open-place e (λ w. o (w .0)))))
 
   not-both : c .place .running ≡ closed → c .place .running ≢ opened
   not-both e o = omega arith

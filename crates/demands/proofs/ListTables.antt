@@ -14,7 +14,7 @@ use Rattle.chain.specs.Paper.{writing, first-mode, two-preambles, most-memory, 
 use Rattle.chain.specs.Rules.{Rule, _gives_, pick, firstOf, from}
 use Rattle.chain.specs.Set.{with·place}
 use Rattle.chain.specs.Kinds.{sizeOf, baseOf, knownOf}
-use Rattle.chain.specs.State.{badChain, unusedZero, wellFormed, illFormed, feedNumber, stateNumber}
+use Rattle.chain.specs.State.{badChain, unusedZero, illFormed, feedNumber, stateNumber}
 use Rattle.chain.specs.Calls.{firstOnly, freshChain, chainNumber, newOf}
 use Rattle.chain.proofs.Sizes.{size-most}
 use Rattle.chain.proofs.ByCases.{by-test}

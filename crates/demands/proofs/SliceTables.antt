@@ -198,15 +198,3 @@ module _ (c : Chain) (m s : List ℕ) where
     where
       nothing : feedNumber c (length m) ≡ done → sliceNumber c m [] ≡ more
       nothing z = slice-number c m [] z ∙ run-none c m
-
--- ---- byte by byte
-
-module _ (c : Chain) (m s : List ℕ) (k : ℕ) (l : k < length s) (h : sliceNumber c m (take k s) ≡ more) where
-  -- where k bytes gave 16, byte k has the table of its own numbers
-  pub next-exact : Table (sliceNumber c m (take (suc k) s)) (ownTable (sliceOf c m (take k s) .chain) (getD s k 0)) more
-  next-exact =
-      rw (at-byte c m s (more-feeds c m (take k s) h) k l h) (own-table (sliceOf c m (take k s) .chain) (getD s k 0))
-
-  -- and a number other than 16 is the slice's, whatever follows
-  pub ends-at : sliceNumber c m (take (suc k) s) ≢ more → sliceNumber c m s ≡ sliceNumber c m (take (suc k) s)
-  ends-at n = ap (λ (f : Fed). f .answer .number) (over-at c m s (more-feeds c m (take k s) h) k n)

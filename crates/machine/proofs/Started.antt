@@ -1,20 +1,18 @@
--- A start that is taken leaves a state that takes a slice. Assumes nothing.
+-- The place that a start opens is well formed, and the state takes a slice. Assumes nothing.
 use Prim.Native.Nat.{ℕ, _≤_}
 use mathlib.Core.Bool.{true}
 use mathlib.Core.Path.{_≡_, refl}
-use borrow.Author.Tests.{lt-ltb, not-false}
-use mathlib.Core.List.{[]}
+use borrow.Author.Tests.{lt-ltb}
 use lib.Dec.{eqb}
 use Rattle.chain.specs.declared.Chain.{Chain}
 use Rattle.chain.specs.Paper.{writing, first-mode, two-preambles, done}
 use Rattle.chain.specs.Rules.{from}
 use Rattle.chain.specs.Set.{with·place}
-use Rattle.chain.specs.State.{unusedZero, wellFormed, stateRules, stateNumber, feedNumber}
+use Rattle.chain.specs.State.{unusedZero, wellFormed, stateNumber, feedNumber}
 use Rattle.chain.proofs.ByCases.{by-test}
-use Rattle.chain.proofs.FirstOf.{first-none, none-first}
 use Rattle.chain.proofs.WellFormed.{m-unused, formed-of}
 use Rattle.chain.proofs.Sound.{state-usable, sound-feed}
-use Rattle.machine.specs.Calls.{startRules, startNumber, openedPlace, startOf}
+use Rattle.machine.specs.Calls.{openedPlace}
 
 opened-formed : (c : Chain) (mode check : ℕ) → 1 ≤ c .count → unusedZero (c .registers) (c .count) ≡ true → from first-mode two-preambles mode ≡ true
     → wellFormed c (c .registers) (openedPlace mode check) ≡ true
@@ -36,11 +34,3 @@ opened-feeds c len mode check h m =
       running = refl;
       formed = formed-of d (c .registers) (openedPlace mode check) w;
     })
-
-pub start-opens : (c : Chain) (len mode check : ℕ) → startNumber c len mode ≡ done
-    → feedNumber (startOf c len mode check .chain) len ≡ done
-unfolding startNumber startOf stateNumber
-start-opens c len mode check h =
-    let r = first-none (startRules c len mode) done tt h in
-    let m : from first-mode two-preambles mode ≡ true = not-false (from first-mode two-preambles mode) (r .1 .1 .0) in
-    rw h (opened-feeds c len mode check (none-first (stateRules c len []) done (r .0, (r .1 .0, tt))) m)
