@@ -18,7 +18,7 @@ use Rattle.chain.specs.Kinds.{kinds, sizes, lookup, sizeOf, sizeAt, baseOf, kno
 use Rattle.chain.specs.State.{badChain, zeros, unusedZero, formed, wellFormed, illFormed}
 use Rattle.chain.proofs.AllOf.{none, _and_, all-each, each-all, each-row}
 use Rattle.chain.proofs.ByCases.{by-test}
-use Rattle.saved.specs.Layout.{saved-length, saved-form, heldFields, placeOf, registersOf, marks, wellSaved}
+use Rattle.saved.specs.Layout.{form1, saved-length, heldIn, placeIn, registersIn, marks, wellSavedIn, wellSaved}
 use Rattle.demands.specs.Formed.{Among, Known, Between, BadChain, UnusedZero, placeRegister, WellFormed, IllFormed, WellSaved}
 use Rattle.demands.proofs.Table.{Tests, t-iff, not-so, so-not, reads}
 
@@ -240,12 +240,12 @@ module _ (c : Chain) where
 
 -- and of a saved place
 pub t-well-saved : (c : Chain) (s : List ℕ) → Tests (wellSaved c s) (WellSaved c s)
-unfolding wellSaved
+unfolding wellSavedIn heldIn
 t-well-saved c s =
-    let v = heldFields s in
+    let v = heldIn form1 s in
     let parts
-    : Tests (eqb (length s) saved-length && allOf (marks v) && wellFormed c (registersOf v) (placeOf v))
-    ((length s ≡ saved-length) × ((getD v 0 0 ≡ saved-form) × (getD v 5 0 ≡ 0) × (getD v 7 0 ≡ 0)) × WellFormed c (registersOf v) (placeOf v))
+    : Tests (eqb (length s) saved-length && allOf (marks (form1 .number) (form1 .table) v) && wellFormed c (registersIn form1 s) (placeIn form1 s))
+    ((length s ≡ saved-length) × ((getD v 0 0 ≡ form1 .number) × (getD v 5 0 ≡ 0) × (getD v 7 0 ≡ 0)) × WellFormed c (registersIn form1 s) (placeIn form1 s))
     = search (t-formed, reads)
     in
     t-iff parts

@@ -60,7 +60,6 @@ pick-up-refused c m s h = rw (ne-eqb (pickUpNumber c (length m) s) done h)
 
 pub save-refused : (c : Chain) (m out : List ℕ) → saveOf c (length m) (length out) .number ≢ done
     → (saveOf c (length m) (length out) .length ≡ 0) × (saveOutput c (length m) out ≡ out)
-unfolding saveOf saveOutput
 save-refused c m out h =
     let e = ne-eqb (saveNumber c (length m) (length out)) done h in
     (rw e, rw e)
