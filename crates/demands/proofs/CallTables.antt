@@ -43,7 +43,7 @@ unfolding dropOf openNumber
 drop-table c m = table (openRules c (length m) []) (openTable c m []) done tt (search state-reads depth 40)
 
 pub save-table : (c : Chain) (m out : List ℕ) → Table (saveOf c (length m) (length out) .number) (saveTable c m out) done
-unfolding saveOf saveNumber
+unfolding saveNumber
 save-table c m out = table (saveRules c (length m) (length out)) (saveTable c m out) done tt (search state-reads depth 40)
 
 pub closing-table : (c : Chain) (m out : List ℕ) → Table (closingOf c m (length out) .number) (closingTable c m out) done

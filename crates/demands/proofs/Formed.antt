@@ -11,16 +11,16 @@ use Rattle.chain.specs.State.{wellFormed}
 use Rattle.chain.specs.WellFormed.{WellFormed}
 use Rattle.chain.proofs.Means.{Means, m-map, reads}
 use Rattle.chain.proofs.WellFormed.{m-formed}
-use Rattle.saved.specs.Layout.{saved-length, saved-form, heldFields, placeOf, registersOf, marks, wellSaved}
+use Rattle.saved.specs.Layout.{form1, saved-length, heldIn, placeIn, registersIn, marks, wellSavedIn, wellSaved}
 use Rattle.demands.specs.Formed.{WellSaved}
 
 pub m-well-saved : (c : Chain) (s : List ℕ) → Means (wellSaved c s) true (WellSaved c s)
-unfolding wellSaved
+unfolding wellSavedIn heldIn
 m-well-saved c s =
-    let v = heldFields s in
+    let v = heldIn form1 s in
     let parts
-    : Means (eqb (length s) saved-length && allOf (marks v) && wellFormed c (registersOf v) (placeOf v)) true
-    ((length s ≡ saved-length) × ((getD v 0 0 ≡ saved-form) × (getD v 5 0 ≡ 0) × (getD v 7 0 ≡ 0)) × WellFormed c (registersOf v) (placeOf v))
+    : Means (eqb (length s) saved-length && allOf (marks (form1 .number) (form1 .table) v) && wellFormed c (registersIn form1 s) (placeIn form1 s)) true
+    ((length s ≡ saved-length) × ((getD v 0 0 ≡ form1 .number) × (getD v 5 0 ≡ 0) × (getD v 7 0 ≡ 0)) × WellFormed c (registersIn form1 s) (placeIn form1 s))
     = search (m-formed, reads)
     in
     m-map parts

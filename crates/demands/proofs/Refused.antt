@@ -23,7 +23,7 @@ use Rattle.machine.specs.Calls.{startNumber, startOf, fedOf, sliceOf, sliceMemo
 use Rattle.machine.proofs.Feed.{run-append, run-over}
 use Rattle.machine.proofs.Runs.{run-ended}
 use Rattle.machine.proofs.Slices.{slice-runs, slice-refused as refused, fed-more, fed-over, slice-number, more-feeds, slice-open}
-use Rattle.saved.specs.Layout.{frontBytes, savedBytes}
+use Rattle.saved.specs.Layout.{savedBytes}
 use Rattle.saved.specs.Calls.{saveNumber, saveOf, saveOutput, pickUpNumber, pickUpOf}
 use Rattle.closing.specs.Closing.{closingBytes}
 use Rattle.closing.specs.Calls.{writtenNumber, closingOf, closingOutput}
@@ -69,7 +69,6 @@ pick-up-refused c m s h = rw (ne-eqb (pickUpNumber c (length m) s) done h)
 
 pub save-refused : (c : Chain) (m out : List ℕ) → saveOf c (length m) (length out) .number ≢ done
     → NothingWritten (saveOf c (length m) (length out) .length) out (saveOutput c (length m) out)
-unfolding saveOf saveOutput frontBytes
 save-refused c m out = nothing-written (saveNumber c (length m) (length out)) (savedBytes (c .registers) (c .place)) out
 
 pub closing-refused : (c : Chain) (m out : List ℕ) → closingOf c m (length out) .number ≢ done

@@ -4,22 +4,26 @@ use mathlib.Core.Path.{_≡_, refl}
 use mathlib.Core.List.{List, [], _∷_, _++_}
 use lib.ListN.{replicate}
 use Rattle.chain.specs.declared.Place.{Place}
-use Rattle.saved.specs.Layout.{frontBytes, savedBytes, heldFields, placeOf, registersOf}
+use Rattle.chain.specs.Set.{with·running, with·mode, with·check, with·device, with·awaited, with·left, with·control, with·start, with·end, with·next, with·taken, with·mismatches, closedPlace}
+use Rattle.saved.specs.Layout.{form1, savedIn, savedBytes, heldIn, placeIn, registersIn}
 
 -- stream A of document 01, stopped after 13 of its 15 bytes
 abbrev stopped : Place
 stopped =
-    record { running = 1; mode = 1; check = 0; device = 0; awaited = 12; left = 1; control = 0; start = 9; end = 11; next = 11; taken = 13; mismatches = 0 }
+    let p = with·left (with·awaited (with·mode (with·running closedPlace 1) 1) 12) 1 in
+    with·taken (with·next (with·end (with·start p 9) 11) 11) 13
 
 pub stopped-bytes : savedBytes (replicate 8 0) stopped
     ≡ 0x12 ∷ 0x18 ∷ 0x01 ∷ 0x00 ∷ 0x00 ∷ 0x09 ∷ 0x00 ∷ 0x0b ∷ 0x00 ∷ 0x0b ∷ 0x00 ∷ 0x00 ∷ 0x00 ∷ 0x0d ∷ 0x00 ∷ 0x00 ∷ 0x00 ∷ 0x00 ∷ replicate 9 0
-unfolding frontBytes
+unfolding savedIn
 stopped-bytes = refl
 
 -- a check in the third device, no byte of which is like another's
 abbrev full : Place
 full =
-    record { running = 1; mode = 5; check = 1; device = 2; awaited = 12; left = 0xa5; control = 0xe7; start = 0x0102; end = 0x0304; next = 0x0203; taken = 0x05060708; mismatches = 0x090a0b0c }
+    let p = with·awaited (with·device (with·check (with·mode (with·running closedPlace 1) 5) 1) 2) 12 in
+    let q = with·next (with·end (with·start (with·left p 0xa5) 0x0102) 0x0304) 0x0203 in
+    with·control (with·mismatches (with·taken q 0x05060708) 0x090a0b0c) 0xe7
 
 abbrev registers : List ℕ
 registers = 0x11 ∷ 0x12 ∷ 0x13 ∷ 0x14 ∷ 0x15 ∷ 0x16 ∷ 0x17 ∷ 0x18 ∷ []
@@ -32,13 +36,13 @@ fullBytes =
     ∷ (registers ++ (0xe7 ∷ []))
 
 pub full-bytes : savedBytes registers full ≡ fullBytes
-unfolding frontBytes
+unfolding savedIn
 full-bytes = refl
 
-pub full-place : placeOf (heldFields fullBytes) ≡ full
-unfolding heldFields
+pub full-place : placeIn form1 fullBytes ≡ full
+unfolding heldIn
 full-place = refl
 
-pub full-registers : registersOf (heldFields fullBytes) ≡ registers
-unfolding heldFields
+pub full-registers : registersIn form1 fullBytes ≡ registers
+unfolding heldIn
 full-registers = refl

@@ -1,34 +1,19 @@
 -- What a well-formed place says of its fields: how large they are. Assumes nothing.
 use Prim.Native.Nat.{ℕ, _^_, _<_}
-use mathlib.Core.Bool.{Bool, true, false, _&&_, false≢true}
+use mathlib.Core.Bool.{true, false}
 use mathlib.Core.Logic.{⊎-elim}
-use mathlib.Core.Path.{_≡_, refl}
+use mathlib.Core.Path.{_≡_}
 use mathlib.Core.List.{List}
 use native.Mathlib.Omega.{arith}
 use borrow.Author.Tests.{eqb-false}
-use lib.ListN.{getD}
 use lib.Dec.{eqb}
 use Rattle.chain.specs.declared.Chain.{Chain}
 use Rattle.chain.specs.declared.Place.{Place}
 use Rattle.chain.specs.Paper.{closed, opened}
-use Rattle.chain.specs.Rules.{allOf}
 use Rattle.chain.specs.State.{badChain, illFormed, wellFormed, unusedZero}
-use Rattle.chain.proofs.AllOf.{all-each, each-row}
 use Rattle.chain.proofs.BadChain.{m-fits}
 use Rattle.chain.proofs.WellFormed.{m-unused, formed-of, of-formed, m-not-ill, next-le-end}
 use Rattle.saved.proofs.Ranged.{Narrow}
-
-pub left-of : (a b : Bool) → (a && b) ≡ true → a ≡ true
-left-of true b h = refl
-left-of false b h = h
-
-pub right-of : (a b : Bool) → (a && b) ≡ true → b ≡ true
-right-of true b h = h
-right-of false b h = absurd (false≢true h)
-
--- each of a list of tests that all hold
-pub row : (bs : List Bool) → allOf bs ≡ true → (i : ℕ) → getD bs i true ≡ true
-row bs h = each-row bs (all-each bs h)
 
 module _ (c : Chain) (len : ℕ) (g : List ℕ) (p : Place) (h : badChain (c .count) (c .kinds) len ≡ false) (w : wellFormed c g p ≡ true) where
   pub narrow : Narrow p

@@ -1,8 +1,7 @@
 pub mod Packing
 pub mod Regroup
-pub mod Chunks
+pub mod Pieces
 pub mod Ranged
-pub mod Whole
 pub mod Formed
 pub mod Answers
 pub mod Only

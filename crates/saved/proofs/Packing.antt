@@ -2,18 +2,11 @@
 use mathlib.Core.Path.{_≡_, refl, sym, ap, ap₂, _∙_, subst}
 use mathlib.Core.List.{List, [], _∷_}
 use Prim.Native.Nat.{ℕ, _+_, _-_, _*_, _/_, _%_, _^_, _<_, _≤_}
-use native.Mathlib.Nat.{le-trans, mod-lt, mod-one, mod-eq-of-lt, add-zero, mul-one, le-add-left, div-one}
+use native.Mathlib.Nat.{le-trans, le-of-eq, mod-lt, mod-one, mod-eq-of-lt, add-zero, mul-one, le-add-left, div-one}
 use lib.Arith.{digits-lt}
 use lib.Pow.{pow-pos, pow-add, mod-pow-add, mod-mod-pow, field, high, low, shl-exact}
 use lib.Bits.{bitAnd, bitOr, and-mask, or-shifted}
-use Rattle.saved.specs.Fields.{total, packed, fieldsOf}
-
--- a value for each width, and each value has no more bits than its width
-abbrev pub Fit : List ℕ → List ℕ → Type 0
-Fit [] [] = Unit {0}
-Fit (w ∷ ws) (v ∷ vs) = (v < 2 ^ w) × Fit ws vs
-Fit [] (v ∷ vs) = ⊥
-Fit (w ∷ ws) [] = ⊥
+use Rattle.saved.specs.Fields.{total, packed, Fit, fieldsOf, recut, bytes}
 
 -- ---- the definitions
 
@@ -83,6 +76,31 @@ pub masked-fields : (ws : List ℕ) (n : ℕ) → masked ws n ≡ fieldsOf ws n
 masked-fields [] n = refl
 masked-fields (w ∷ []) n = ap (λ (x : ℕ). x ∷ []) (and-mask n w ∙ ap (λ (x : ℕ). x % 2 ^ w) (sym (div-one n)))
 masked-fields (w ∷ u ∷ ws) n = ap₂ (λ (x : ℕ) (l : List ℕ). x ∷ l) (and-mask (n / 2 ^ total (u ∷ ws)) w) (masked-fields (u ∷ ws) n)
+
+-- one field of its own
+pub packed-one : (w v : ℕ) → packed (w ∷ []) (v ∷ []) ≡ v
+packed-one w v = add-zero (v * 1) ∙ mul-one v
+
+-- a number cut at the widths us
+pub masked-one : (w : ℕ) (us : List ℕ) (n : ℕ) → masked us n ≡ recut (w ∷ []) us (n ∷ [])
+masked-one w us n = masked-fields us n ∙ ap (fieldsOf us) (sym (packed-one w n))
+
+-- one field for all of a number
+pub one-field : (w : ℕ) (ws : List ℕ) {n : ℕ} → n < 2 ^ total ws → total ws ≡ w → n ∷ [] ≡ fieldsOf (w ∷ []) n
+one-field w ws {n} l e =
+    ap (λ (x : ℕ). x ∷ []) (sym (mod-eq-of-lt (subst (λ (k : ℕ). n < 2 ^ k) e l)) ∙ ap (λ (x : ℕ). x % 2 ^ w) (sym (div-one n)))
+
+-- bytes put together
+pub ored-one : (W n : ℕ) (vs : List ℕ) → Fit (bytes n) vs → total (bytes n) ≡ W → ored W (bytes n) vs ∷ [] ≡ recut (bytes n) (W ∷ []) vs
+ored-one W n vs f e =
+    ap (λ (x : ℕ). x ∷ []) (ored-packed W (bytes n) vs f (le-of-eq e)) ∙ one-field W (bytes n) (packed-lt (bytes n) vs f) e
+
+-- the fields of a number that was one field
+pub fields-of-one : (w : ℕ) (ws : List ℕ) (n : ℕ) {x : ℕ} → total ws ≡ w → x ∷ [] ≡ fieldsOf (w ∷ []) n → masked ws x ≡ fieldsOf ws n
+fields-of-one w ws n {x} e q =
+    let is : x ≡ n / 1 % 2 ^ w = cc in
+    masked-fields ws x
+    ∙ fields-mod ws x n (ap (λ (k : ℕ). k % 2 ^ total ws) (is ∙ ap (λ (k : ℕ). k % 2 ^ w) (div-one n)) ∙ ap (λ (k : ℕ). n % 2 ^ w % 2 ^ k) e ∙ mod-eq-of-lt (mod-lt n (pow-pos w)) ∙ ap (λ (k : ℕ). n % 2 ^ k) (sym e))
 
 -- through another layout of as many bits, and back: fields through bytes, and bytes through fields
 pub through : (us ws vs : List ℕ) → Fit ws vs → total ws ≡ total us → fieldsOf ws (packed us (fieldsOf us (packed ws vs))) ≡ vs

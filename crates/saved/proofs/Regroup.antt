@@ -7,8 +7,8 @@ use native.Mathlib.Omega.{arith}
 use lib.ListN.{length, getD, drop, drop-of-length-le}
 use lib.Seq.{drop-cons}
 use lib.Pow.{pow-add, shr-shr, high, low}
-use Rattle.saved.specs.Fields.{total, packed, fieldsOf}
-use Rattle.saved.proofs.Packing.{Fit, packed-lt, fields-mod}
+use Rattle.saved.specs.Fields.{total, packed, Fit, fieldsOf}
+use Rattle.saved.proofs.Packing.{packed-lt, fields-mod}
 
 pub total-append : (ws us : List ℕ) → total (ws ++ us) ≡ total ws + total us
 total-append [] us = sym (zero-add (total us))
@@ -40,10 +40,6 @@ regroup us zs ws xs vs ys f g e =
     ∙ ap₂ (λ (a b : List ℕ). a ++ b)
     (ap (fieldsOf us) (ap (λ (t : ℕ). n / 2 ^ t) e ∙ high (packed ws vs) (total xs) r))
     (fields-mod zs n (packed xs ys) (ap (λ (t : ℕ). n % 2 ^ t) e ∙ low (packed ws vs) (total xs) r ∙ sym (ap (λ (t : ℕ). packed xs ys % 2 ^ t) e ∙ mod-eq-of-lt r)))
-
--- one field of its own
-pub packed-one : (w v : ℕ) → packed (w ∷ []) (v ∷ []) ≡ v
-packed-one w v = add-zero (v * 1) ∙ mul-one v
 
 -- n elements of a list, from i on
 abbrev pub elems : ℕ → ℕ → List ℕ → List ℕ

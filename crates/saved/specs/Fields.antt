@@ -1,5 +1,5 @@
 -- Bit-packed fields, most significant first. A layout is the list of its fields' widths; bytes are fields of 8 bits. Assumes nothing.
-use Prim.Native.Nat.{ℕ, _+_, _*_, _/_, _%_, _^_}
+use Prim.Native.Nat.{ℕ, _+_, _*_, _/_, _%_, _^_, _<_}
 use mathlib.Core.List.{List, [], _∷_}
 use lib.ListN.{replicate}
 
@@ -13,6 +13,13 @@ abbrev pub packed : List ℕ → List ℕ → ℕ
 packed (w ∷ ws) (v ∷ vs) = v * 2 ^ total ws + packed ws vs
 packed [] vs = 0
 packed (w ∷ ws) [] = 0
+
+-- a value for each width, and each value has no more bits than its width
+abbrev pub Fit : List ℕ → List ℕ → Type 0
+Fit [] [] = Unit {0}
+Fit (w ∷ ws) (v ∷ vs) = (v < 2 ^ w) × Fit ws vs
+Fit [] (v ∷ vs) = ⊥
+Fit (w ∷ ws) [] = ⊥
 
 -- the values that a number holds
 abbrev pub fieldsOf : List ℕ → ℕ → List ℕ

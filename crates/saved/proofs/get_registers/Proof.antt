@@ -1,47 +1,27 @@
-use mathlib.Core.Path.{sym, ap}
-use Rattle.saved.specs.Layout.{registersOf}
-use Rattle.saved.proofs.Whole.{held-is}
+use Prim.Native.Nat.{ℕ, _<_, _^_}
+use lib.ListN.{getD}
+use mathlib.Core.Path.{_≡_, ap, sym, _∙_}
+use mathlib.Core.List.{List, [], _∷_}
+use Rattle.saved.specs.Fields.{bytes}
+use Rattle.saved.specs.Layout.{rows, numberRows, byteCount, registersOf}
+use Rattle.saved.proofs.Packing.{fields-packed}
+use Rattle.saved.proofs.Regroup.{elems}
+use Rattle.saved.proofs.Pieces.{held-is, fit-bytes}
 use borrow.Author.Needs.{needs}
 use Rattle.saved.proofs.get_registers.Statement.{statement}
 use Rattle.saved.proofs.get_registers.Tie as tie
 
-shared-slice-read-t3 : tie.Need-shared-slice-read-t3
-shared-slice-read-t3 c = search needs
-
-shared-slice-read-t5 : tie.Need-shared-slice-read-t5
-shared-slice-read-t5 c = search needs
-
-shared-slice-read-t7 : tie.Need-shared-slice-read-t7
-shared-slice-read-t7 c = search needs
-
-shared-slice-read-t9 : tie.Need-shared-slice-read-t9
-shared-slice-read-t9 c = search needs
-
-shared-slice-read-t11 : tie.Need-shared-slice-read-t11
-shared-slice-read-t11 c = search needs
-
-shared-slice-read-t13 : tie.Need-shared-slice-read-t13
-shared-slice-read-t13 c = search needs
-
-shared-slice-read-t15 : tie.Need-shared-slice-read-t15
-shared-slice-read-t15 c = search needs
-
-shared-slice-read-t17 : tie.Need-shared-slice-read-t17
-shared-slice-read-t17 c = search needs
+eight-requires : tie.Need-eight-requires
+eight-requires c κs = search needs
 
 returns : tie.Need-returns
-returns c = ap registersOf (sym (held-is (c .before .before .before .before .before .before .before .before .args .s .now) (c .before .before .before .before .before .before .before .before .pre) (λ i. (c .before .before .before .before .before .before .before .shared-slice-known .given) i .fits)))
+returns c =
+    let s = c .before .before .args .s .now in
+    let byte : (i : ℕ) → getD s i 0 < 2 ^ 8 = λ i. c .before .shared-slice-known .given i .fits in
+    let at = byteCount numberRows in
+    c .eight .ensures
+    ∙ sym (fields-packed (bytes 8) (elems at 8 s) (fit-bytes s byte 8 at))
+    ∙ ap (registersOf rows) (sym (held-is s byte (c .before .before .pre)))
 
 pub get-registers-spec : {M : Type 1} → statement M
-get-registers-spec =
-    tie.close
-    (tie.spec
-    shared-slice-read-t3
-    shared-slice-read-t5
-    shared-slice-read-t7
-    shared-slice-read-t9
-    shared-slice-read-t11
-    shared-slice-read-t13
-    shared-slice-read-t15
-    shared-slice-read-t17
-    returns)
+get-registers-spec = tie.close (tie.spec eight-requires returns)

@@ -1,8 +1,7 @@
-use Prim.Native.Nat.{ℕ, _*_, _%_, _^_}
-use mathlib.Core.Path.{sym, ap, _∙_}
-use lib.Bits.{bitOr, or-zero-r}
-use lib.Dec.{lit≤, lit<}
-use Rattle.saved.specs.Layout.{headWidths, headValues}
+use mathlib.Core.List.{[]}
+use lib.Bits.{or-zero-l, or-zero-r}
+use lib.Dec.{lit≤}
+use Rattle.saved.specs.Layout.{headRows, widths, values}
 use Rattle.saved.proofs.Packing.{ored-packed}
 use borrow.Author.Needs.{needs}
 use Rattle.saved.proofs.head.Statement.{statement}
@@ -20,13 +19,12 @@ cast-result-3 c = search needs
 cast-result-4 : tie.Need-cast-result-4
 cast-result-4 c = search needs
 
+cast-result-5 : tie.Need-cast-result-5
+cast-result-5 c = search needs
+
 returns : tie.Need-returns
-returns c = let a = (c .before .before .before .before .args) in
-    let p = a .p in
-    let n = (c .before .before .before .before .pre) in
-    ap (λ (x : ℕ). bitOr (a .form * 2 ^ 12 % 2 ^ 16) (bitOr (p .mode * 2 ^ 9 % 2 ^ 16) (bitOr (p .check * 2 ^ 8 % 2 ^ 16) (bitOr (p .device * 2 ^ 5 % 2 ^ 16) x))))
-    (sym (or-zero-r (p .awaited * 2 ^ 1 % 2 ^ 16)))
-    ∙ ored-packed 16 headWidths (headValues (a .form) p) (n .0, (n .1, (n .2, (n .3, (n .4, (lit< tt, tt)))))) (lit≤ tt)
+returns c = let s = c .before .before .before .before .before in
+    simp (or-zero-l, or-zero-r) at (ored-packed 32 (widths headRows) (values (s .args .form) headRows [] (s .args .p)) (s .pre) (lit≤ tt))
 
 pub head-spec : {M : Type 1} → statement M
-head-spec = tie.close (tie.spec cast-result cast-result-2 cast-result-3 cast-result-4 returns)
+head-spec = tie.close (tie.spec cast-result cast-result-2 cast-result-3 cast-result-4 cast-result-5 returns)

@@ -4,7 +4,7 @@ use native.Mathlib.Omega.{arith}
 use borrow.Author.Tests.{eq-eqb, ne-eqb}
 use lib.ListN.{length}
 use Rattle.chain.specs.Paper.{done, run-open, ill-formed}
-use Rattle.saved.specs.Layout.{wellSaved}
+use Rattle.saved.specs.Layout.{wellSavedIn}
 use borrow.Author.Needs.{needs}
 use Rattle.saved.proofs.pick_up.Statement.{statement}
 use Rattle.saved.proofs.pick_up.Tie as tie
@@ -29,7 +29,7 @@ returns-2 c = let a = (c .before .before .before .before .before .before .args) 
     }
 
 returns-3 : tie.Need-returns-3
-unfolding wellSaved
+unfolding wellSavedIn
 returns-3 c = let a = (c .before .before .before .before .before .before .before .args) in
     let e = sym (c .before .before .before .before .state-number .ensures) ∙ (c .before .before .before .if1 .left) in
     record {

@@ -6,7 +6,7 @@ use lib.ListN.{set}
 use lib.Seq.{sets}
 use mir.Facts.{fits-and-r, fits-lit}
 use Rattle.saved.specs.Fields.{bytes}
-use Rattle.saved.proofs.Packing.{masked-fields}
+use Rattle.saved.proofs.Packing.{masked-one}
 use borrow.Author.Needs.{needs}
 use Rattle.saved.proofs.put16.Statement.{statement}
 use Rattle.saved.proofs.put16.Tie as tie
@@ -33,7 +33,7 @@ returns : tie.Need-returns
 returns c = let a = (c .args) in
     let e : a .i + 1 ≡ suc (a .i) = omega arith in
     (λ k. set (set (a .out .now) (a .i) (bitAnd (a .x / 2 ^ 8) 255)) (e k) (bitAnd (a .x) 255))
-    ∙ ap (sets (a .out .now) (a .i)) (masked-fields (bytes 2) (a .x))
+    ∙ ap (sets (a .out .now) (a .i)) (masked-one 16 (bytes 2) (a .x))
 
 pub put16-spec : {M : Type 1} → statement M
 put16-spec =

@@ -6,7 +6,7 @@ use lib.ListN.{set, length-set}
 use lib.Seq.{sets}
 use mir.Facts.{fits-and-r, fits-lit}
 use Rattle.saved.specs.Fields.{bytes}
-use Rattle.saved.proofs.Packing.{masked-fields}
+use Rattle.saved.proofs.Packing.{masked-one}
 use borrow.Author.Needs.{needs}
 use Rattle.saved.proofs.put32.Statement.{statement}
 use Rattle.saved.proofs.put32.Tie as tie
@@ -53,7 +53,7 @@ returns c = let a = (c .args) in
     let e₂ : a .i + 2 ≡ suc (suc (a .i)) = omega arith in
     let e₃ : a .i + 3 ≡ suc (suc (suc (a .i))) = omega arith in
     (λ k. set (set (set (set (a .out .now) (a .i) (bitAnd (a .x / 2 ^ 24) 255)) (e k) (bitAnd (a .x / 2 ^ 16) 255)) (e₂ k) (bitAnd (a .x / 2 ^ 8) 255)) (e₃ k) (bitAnd (a .x) 255))
-    ∙ ap (sets (a .out .now) (a .i)) (masked-fields (bytes 4) (a .x))
+    ∙ ap (sets (a .out .now) (a .i)) (masked-one 32 (bytes 4) (a .x))
 
 pub put32-spec : {M : Type 1} → statement M
 put32-spec =

@@ -1,71 +1,61 @@
-use Prim.Native.Nat.{ℕ, suc, _+_, _-_}
-use mathlib.Core.Path.{_≡_, refl, sym, ap, _∙_}
-use mathlib.Core.List.{List, _∷_}
+use Prim.Native.Nat.{ℕ, _+_, _<_, _^_}
+use mathlib.Core.Path.{_≡_, refl, ap, sym, _∙_}
+use mathlib.Core.List.{[], _∷_}
+use lib.ListN.{length, getD}
+use lib.Seq.{sets}
+use mir.Syntax.{w8}
+use mir.Val.{Fits}
+use Rattle.saved.specs.Fields.{recut, bytes}
+use Rattle.saved.specs.Layout.{byteCount, numberRows}
+use Rattle.saved.proofs.Packing.{through}
+use Rattle.saved.proofs.Regroup.{elems, elems-is}
+use Rattle.saved.proofs.Pieces.{fit-bytes}
 use borrow.Author.Needs.{needs}
-use native.Mathlib.Omega.{arith}
-use lib.ListN.{length, getD, set, drop, length-set, drop-of-length-le}
-use lib.Seq.{sets, drop-cons}
 use Rattle.saved.proofs.put_registers.Statement.{statement}
 use Rattle.saved.proofs.put_registers.Tie as tie
 
-abbrev Inv-loop : tie.InvT-loop
-Inv-loop out₀ registers i₀ out i = (length out ≡ length out₀) × (sets out₀ 18 registers ≡ sets out (18 + i) (drop i registers))
+first4-requires : tie.Need-first4-requires
+first4-requires c κs = search needs
 
-abbrev μ-loop : tie.MeasureT-loop
-μ-loop out₀ registers i₀ out i = 8 - i
+put32-requires : tie.Need-put32-requires
+put32-requires c κs = search needs
 
-loop-holds : tie.Need-loop-holds Inv-loop μ-loop
-loop-holds c = (refl, refl)
+last4-requires : tie.Need-last4-requires
+last4-requires c κs = search needs
 
-array-read-out : tie.Need-array-read-out Inv-loop μ-loop
-array-read-out c = search needs
+put32-requires-2 : tie.Need-put32-requires-2
+put32-requires-2 c κs = search needs
 
-add-out : tie.Need-add-out Inv-loop μ-loop
-add-out c = search needs
-
-slice-write-out : tie.Need-slice-write-out Inv-loop μ-loop
-slice-write-out c = search needs
-
-add-i : tie.Need-add-i Inv-loop μ-loop
-add-i c = search needs
-
-loop-less : tie.Need-loop-less Inv-loop μ-loop
-loop-less c = search needs
-
-loop-again : tie.Need-loop-again Inv-loop μ-loop
-loop-again c = let l = (c .before .loop) in
-    let rs = (c .before .before .args .t2) in
-    let eight : length rs ≡ 8 = search needs in
-    let e : suc (18 + l .i) ≡ 18 + (l .i + 1) = omega arith in
-    let f : suc (l .i) ≡ l .i + 1 = omega arith in
-    let at : drop (l .i) rs ≡ getD rs (l .i) 0 ∷ drop (suc (l .i)) rs = drop-cons rs (l .i) 0 (omega arith) in (
-      length-set (l .out) (18 + l .i) (getD rs (l .i) 0) ∙ l .inv .0,
-      l .inv .1
-          ∙ ap (λ (vs : List ℕ). sets (l .out) (18 + l .i) vs) at
-          ∙ (λ k. sets (set (l .out) (18 + l .i) (getD rs (l .i) 0)) (e k) (drop (f k) rs)),
-    )
-
-same-length : tie.Need-same-length Inv-loop μ-loop
+same-length : tie.Need-same-length
 same-length c = search needs
 
-returns : tie.Need-returns Inv-loop μ-loop
-returns c = let l = (c .before .loop) in
-    let rs = (c .before .before .args .t2) in
-    let eight : length rs ≡ 8 = search needs in
-    sym (l .inv .1 ∙ ap (λ (vs : List ℕ). sets (l .out) (18 + l .i) vs) (drop-of-length-le rs {i = l .i} (omega arith)))
+-- what is known of the registers, where the function starts
+register : (s : tie.Start) (i : ℕ) → getD (s .args .registers) i 0 < 2 ^ 8
+register s i = let f : Fits w8 (getD (s .args .registers) i 0) = search needs in f .fits
+
+eight : (s : tie.Start) → length (s .args .registers) ≡ 8
+eight s = search needs
+
+-- four registers as one number, and as bytes again
+back : (s : tie.Start) (i x : ℕ) → x ∷ [] ≡ recut (bytes 4) (32 ∷ []) (elems i 4 (s .args .registers))
+    → recut (32 ∷ []) (bytes 4) (x ∷ []) ≡ elems i 4 (s .args .registers)
+back s i x e =
+    let g = s .args .registers in
+    ap (recut (32 ∷ []) (bytes 4)) e ∙ through (32 ∷ []) (bytes 4) (elems i 4 g) (fit-bytes g (register s) 4 i) refl
+
+returns : tie.Need-returns
+returns c =
+    let s = c .before .before .before .before .before .before .before .before .before .before .before in
+    let out = s .args .out .now in
+    let at = byteCount numberRows in
+    let first = c .before .before .before .before .before .before .before .before .first4 in
+    let last = c .before .before .before .last4 in
+    c .before .before .put322 .ensures
+    ∙ (λ k. sets ((c .before .before .before .before .before .before .before .put32 .ensures) k) (at + 4) (recut (32 ∷ []) (bytes 4) (last .result ∷ [])))
+    ∙ (λ k. sets (sets out at (back s 0 (first .result) (first .ensures) k)) (at + 4) (back s 4 (last .result) (last .ensures) k))
+    ∙ ap (sets out at) (elems-is 0 8 (s .args .registers) (sym (eight s)))
 
 pub put-registers-spec : {M : Type 1} → statement M
 put-registers-spec =
     tie.close
-    (tie.spec
-    Inv-loop
-    μ-loop
-    loop-holds
-    array-read-out
-    add-out
-    slice-write-out
-    add-i
-    loop-less
-    loop-again
-    same-length
-    returns)
+    (tie.spec first4-requires put32-requires last4-requires put32-requires-2 same-length returns)
