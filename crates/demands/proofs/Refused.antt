@@ -82,7 +82,6 @@ pub write-refused : (kind mode control : ℕ) (address starts ends bytes out : L
     → writeOf kind mode control address starts ends bytes (length out) .number ≢ done
     → (writeOf kind mode control address starts ends bytes (length out) .length ≡ 0)
     × (writeOutput kind mode control address starts ends bytes out ≡ out)
-unfolding writeOf writeOutput
 write-refused kind mode control address starts ends bytes out h =
     let e = ne-eqb (writeNumber kind mode control address starts ends bytes (length out)) done h in
     (rw e, rw e)
