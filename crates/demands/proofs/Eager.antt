@@ -17,7 +17,7 @@ use Rattle.grammar.specs.Fits.{Reading}
 use Rattle.demands.specs.Demand3.{Whole, load, Demand3}
 use Rattle.demands.specs.Ours.{ours}
 use Rattle.demands.specs.Wrong.{eager}
-use Rattle.demands.proofs.StreamA.{teaching, cells0, idle-teaching, mode-one}
+use Rattle.demands.proofs.loads.StreamA.{teaching, cells0, idle-teaching, mode-one}
 
 -- a window of equal bytes: what the eager loader makes up is what comes
 abbrev sectionB : Section

@@ -11,8 +11,8 @@ use Rattle.chain.specs.State.{badChain, unusedZero, wellFormed, illFormed, stat
 use Rattle.machine.specs.Byte.{numberOf, passedOf, advanceOf}
 use Rattle.machine.specs.Run.{addressOf, memoryOf, registersOf, missedOf, stepOf, runOf}
 use Rattle.machine.specs.Calls.{startNumber, startOf, fedOf, sliceOf, sliceMemory}
-use Rattle.writer.specs.Stream.{leadIn, windowsBytes, headBytes, streamOf}
-use Rattle.writer.specs.Write.{windowsNumber, sumOf, numberOf as writeNumber-of, writeNumber, writeOf, writeOutput}
+use Rattle.writer.specs.Stream.{leadIn, streamOf}
+use Rattle.writer.specs.Write.{windowsNumber, sumOf, numberOf as writeNumber-of, writeNumber}
 use Rattle.lister.specs.Windows.{windowStop, readWindowOf, windowsStop, windowsOf}
 use Rattle.lister.specs.Listing.{preambleAt, headStop, checkStop, streamStop, listStop, listedOf, listingOf}
 use Rattle.closing.specs.Closing.{closingBytes}
@@ -22,10 +22,10 @@ use Rattle.chain.specs.Bytes.{Bytes}
 use Rattle.grammar.specs.Fits.{Fitting, Reading}
 use Rattle.demands.specs.Demand2.{Demand2a}
 use Rattle.demands.specs.Demand3.{Whole, Demand3}
-use Rattle.grammar.specs.Tables.{starts, offsets}
+use Rattle.grammar.specs.Tables.{starts, offsets, windowsFrom}
 use Rattle.demands.specs.Files.{Demand2b}
 use Rattle.demands.specs.Wrong.{barring, checkWrites, shortClosing, offsetsFromFirst}
-use Rattle.demands.proofs.StreamA.{teaching, cells0, sectionA, idle-teaching, mode-one, fits-A}
+use Rattle.demands.proofs.loads.StreamA.{teaching, cells0, sectionA, idle-teaching, mode-one, fits-A}
 use Rattle.demands.proofs.Shut.{whole-seen}
 
 -- ---- B4 applied to the stream that sets it
@@ -93,7 +93,7 @@ first-offset [] s e = let z : _≡_ {A = ℕ} 0 9 = ap (λ (l : List ℕ). getD 
 first-offset (w ∷ ws) s e = let z : _≡_ {A = ℕ} 11 12 = ap (λ (l : List ℕ). getD l 0 0) e in omega arith
 
 pub offsets-out : Demand2b offsetsFromFirst → ⊥
-unfolding sizeOf leadIn windowsBytes headBytes streamOf windowsNumber sumOf writeNumber-of writeNumber writeOf writeOutput preambleAt headStop checkStop streamStop listStop listedOf listingOf windowStop readWindowOf windowsStop windowsOf
+unfolding sizeOf leadIn windowsFrom streamOf windowsNumber sumOf writeNumber-of writeNumber preambleAt headStop checkStop streamStop listStop listedOf listingOf windowStop readWindowOf windowsStop windowsOf
 offsets-out d =
     let w = d 0 6 0 0 0 0 (9 ∷ []) (11 ∷ []) (0x11 ∷ 0x22 ∷ 0x33 ∷ []) (replicate 20 0) teaching
     (lit< tt, (lit< tt, (lit< tt, (lit< tt, (lit< tt, (lit< tt, (lit< tt, tt))))))) refl

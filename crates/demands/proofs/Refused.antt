@@ -82,7 +82,6 @@ hunt-refused s out = nothing-written (huntNumber s (length out)) (huntedBytes s)
 pub write-refused : (kind mode control : ℕ) (address starts ends bytes out : List ℕ)
     → writeOf kind mode control address starts ends bytes (length out) .number ≢ done
     → NothingWritten (writeOf kind mode control address starts ends bytes (length out) .length) out (writeOutput kind mode control address starts ends bytes out)
-unfolding writeOf writeOutput
 write-refused kind mode control address starts ends bytes out =
     nothing-written (writeNumber kind mode control address starts ends bytes (length out)) (streamOf mode control address starts ends bytes) out
 

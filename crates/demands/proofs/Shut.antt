@@ -18,7 +18,7 @@ use Rattle.demands.specs.Loader.{Loader, Idle, Mode}
 use Rattle.grammar.specs.Fits.{Fitting}
 use Rattle.demands.specs.Demand2.{Seen, Demand2a}
 use Rattle.demands.specs.Wrong.{constant, idle, taking, missing}
-use Rattle.demands.proofs.StreamA.{teaching, cells0, sectionA, idle-teaching, mode-one, fits-A}
+use Rattle.demands.proofs.loads.StreamA.{teaching, cells0, sectionA, idle-teaching, mode-one, fits-A}
 
 -- a stream is never empty
 pub record Begins (bs : List ℕ) : Type 0 where

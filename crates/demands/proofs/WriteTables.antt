@@ -82,7 +82,7 @@ module _ (size : ℕ) (ss es : List ℕ) where
 
 pub write-table : (kind mode control : ℕ) (address starts ends bytes out : List ℕ)
     → Table (writeOf kind mode control address starts ends bytes (length out) .number) (writeTable kind mode control address starts ends bytes out) done
-unfolding writeOf writeNumber numberOf
+unfolding writeNumber numberOf
 write-table kind mode control address starts ends bytes out =
     table (writeRules kind mode starts ends (length bytes) (length (streamOf mode control address starts ends bytes)) (length out))
     (writeTable kind mode control address starts ends bytes out) done tt

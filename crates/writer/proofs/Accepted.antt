@@ -133,10 +133,10 @@ same-number kind mode ss es len long long₂ room f =
     (λ e. simp e)
 
 -- and it is worked out from their lengths alone
-pub number-is : (kind mode control : ℕ) (address ss es d : List ℕ) (room : ℕ) → length address ≡ 3
+pub number-is : (kind mode control : ℕ) (address ss es d : List ℕ) (room : ℕ)
     → numberOf kind mode ss es (length d) (length (leadIn mode) + 6 + 5 * length ss + sumOf ss es) room
     ≡ writeNumber kind mode control address ss es d room
 unfolding writeNumber
-number-is kind mode control address ss es d room h =
+number-is kind mode control address ss es d room =
     same-number kind mode ss es (length d) (length (leadIn mode) + 6 + 5 * length ss + sumOf ss es) (length (streamOf mode control address ss es d)) room
-    (λ p q. sym (stream-length mode control address h ss es d p q ∙ rw q))
+    (λ p q. sym (stream-length mode control address ss es d p q ∙ rw q))

@@ -10,7 +10,7 @@ use Rattle.writer.specs.Stream.{windowBytes, windowsBytes}
 use Rattle.chain.specs.Output.{over}
 use Rattle.writer.specs.Write.{sumOf}
 use Rattle.writer.proofs.Over.{back, over-more, length-more, tail-length}
-use Rattle.writer.proofs.Windows.{bytes-more, bytes-done, sum-more, sum-done}
+use Rattle.writer.proofs.Windows.{bytes-more, bytes-done, window-length, sum-more, sum-done}
 
 -- the windows left, written into the tail of o, give the whole output; i windows and `from` data bytes are written so far
 abbrev pub Inv : (ss es d o₀ o : List ℕ) (at from i : ℕ) → Type 0
@@ -44,7 +44,7 @@ module _ (ss es d o₀ : List ℕ) (same : length ss ≡ length es) (fits : 5 * 
       let n : length (take w (drop from d)) ≡ w = length-take-le w (drop from d) (omega (arith, length-drop from d)) in
       let win : List ℕ = windowBytes (getD ss i 0) (getD es i 0) (take w (drop from d)) in
       let five : r ≡ 5 + w = er ∙ rw e (ap (λ (x : ℕ). 5 + x) n) in
-      let lw : length win ≡ 5 + w = omega (arith, n) in
+      let lw : length win ≡ 5 + w = window-length (getD ss i 0) (getD es i 0) (take w (drop from d)) ∙ ap (λ (x : ℕ). 5 + x) n in
       let r-is : r ≡ length win = five ∙ sym lw in
       let b : take at o ++ (ys ++ drop (length o - at) (drop at o)) ≡ take at o ++ over win (drop at o) = back at win o ys (rw e at ey) in (
         omega arith,

@@ -54,11 +54,11 @@ unfoldable pub writeNumber : ℕ → ℕ → ℕ → List ℕ → List ℕ → L
 writeNumber kind mode control address starts ends bytes room =
     numberOf kind mode starts ends (length bytes) (length (streamOf mode control address starts ends bytes)) room
 
-unfoldable pub writeOf : ℕ → ℕ → ℕ → List ℕ → List ℕ → List ℕ → List ℕ → ℕ → Written
+abbrev pub writeOf : ℕ → ℕ → ℕ → List ℕ → List ℕ → List ℕ → List ℕ → ℕ → Written
 writeOf kind mode control address starts ends bytes room =
     writtenOf (writeNumber kind mode control address starts ends bytes room) (streamOf mode control address starts ends bytes)
 
-unfoldable pub writeOutput : ℕ → ℕ → ℕ → List ℕ → List ℕ → List ℕ → List ℕ → List ℕ → List ℕ
+abbrev pub writeOutput : ℕ → ℕ → ℕ → List ℕ → List ℕ → List ℕ → List ℕ → List ℕ → List ℕ
 writeOutput kind mode control address starts ends bytes out =
     outputOf (writeNumber kind mode control address starts ends bytes (length out)) (streamOf mode control address starts ends bytes) out
 

@@ -1,7 +1,7 @@
 // Each part of the stream is lent the tail of the output, writes its front and answers its length.
-use crate::refusal::width;
 use cells::copy;
 use chain::paper::*;
+use chain::window::width;
 ghost use mathlib.Core.Path.{_≡_};
 ghost use mathlib.Core.List.{[]};
 ghost use Prim.Native.Nat.{_+_, _*_, _≤_};

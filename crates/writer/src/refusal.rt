@@ -1,25 +1,14 @@
 // The writer's number, in document 01's order.
 use chain::kinds::size_of;
 use chain::paper::*;
+use chain::window::width;
 ghost use mathlib.Core.Path.{_≡_};
 ghost use Prim.Native.Nat.{_+_, _*_, _≤_};
 ghost use lib.ListN.{length};
-ghost use Rattle.chain.specs.Window.{widthOf};
 ghost use Rattle.writer.specs.Stream.{leadIn};
 ghost use Rattle.writer.specs.Write.{most-windows, windowsNumber, sumOf, numberOf};
 
 const MOST_WINDOWS: usize = 255;
-
-// The data bytes of a window; 1 where its end is below its start, so that no caller owes an order.
-pub(crate) fn width(start: u16, end: u16) -> usize
-    ensures { λ r. ⌜ (r ≡ widthOf start end) × (r ≤ 65536) ⌝ }
-{
-    if start <= end {
-        (end - start) as usize + 1
-    } else {
-        1
-    }
-}
 
 // Window by window, 11 or 12, or 0.
 fn windows_number(size: u16, starts: &[u16], ends: &[u16]) -> u8

@@ -1,7 +1,5 @@
-use mathlib.Core.Path.{_≡_}
 use Rattle.writer.proofs.Answers.{refused, ready, wrote}
 use borrow.Author.Needs.{needs}
-use lib.ListN.{length}
 use Rattle.writer.proofs.write.Statement.{statement}
 use Rattle.writer.proofs.write.Tie as tie
 use Rattle.writer.proofs.write.Reads as reads
@@ -14,21 +12,22 @@ number-requires c κs = search needs
 
 returns : tie.Need-returns
 returns c = let a = (c .before .before .before .before .before .before .args) in
-    let l : length (a .address) ≡ 3 = search needs in
-    refused (a .kind) (a .mode) (a .control) (a .address) (a .starts .now) (a .ends .now) (a .cells .now) (a .out .now) l (c .before .number .result) (c .before .number .ensures) (c .if1 .taken)
+    refused (a .kind) (a .mode) (a .control) (a .address) (a .starts .now) (a .ends .now) (a .cells .now) (a .out .now) (c .before .number .result) (c .before .number .ensures) (c .if1 .taken)
 
 stream-requires : tie.Need-stream-requires
 stream-requires c κs = let a = (c .before .before .before .before .before .before .before .args) in
-    let l : length (a .address) ≡ 3 = search needs in
-    ready (a .kind) (a .mode) (a .control) (a .address) (a .starts .now) (a .ends .now) (a .cells .now) (a .out .now) l (c .before .before .number .result) (c .before .before .number .ensures) (c .before .if1 .left)
+    ready (a .kind) (a .mode) (a .control) (a .address) (a .starts .now) (a .ends .now) (a .cells .now) (a .out .now) (c .before .before .number .result) (c .before .before .number .ensures) (c .before .if1 .left)
 
 same-length : tie.Need-same-length
 same-length c = search needs
 
 returns-2 : tie.Need-returns-2
-returns-2 c = let a = (c .before .before .before .before .before .before .before .before .before .before .args) in
-    let l : length (a .address) ≡ 3 = search needs in
-    wrote (a .kind) (a .mode) (a .control) (a .address) (a .starts .now) (a .ends .now) (a .cells .now) (a .out .now) l (c .before .before .before .before .before .number .result) (c .before .before .before .before .before .number .ensures) (c .before .before .before .before .if1 .left) (c .before .before .stream .result) _ (c .before .before .stream .ensures .0) (c .before .before .stream .ensures .1)
+returns-2 c =
+    let s = c .before .before in
+    let q = s .before .before in
+    let n = q .before in
+    let a = n .before .before .before .before .before .args in
+    wrote (a .kind) (a .mode) (a .control) (a .address) (a .starts .now) (a .ends .now) (a .cells .now) (a .out .now) (n .number .result) (n .number .ensures) (q .if1 .left) (s .stream .result) _ (s .stream .ensures .0) (s .stream .ensures .1)
 
 pub write-spec : {M : Type 1} → statement M
 write-spec = tie.close (tie.spec number-requires returns stream-requires same-length returns-2)

@@ -1,11 +1,10 @@
-use Prim.Native.Nat.{ℕ, _+_, _-_}
-use mathlib.Core.Path.{_≡_, _∙_}
-use mathlib.Core.List.{List, [], _∷_, _++_}
+use Prim.Native.Nat.{ℕ, _-_}
+use mathlib.Core.List.{List, [], _∷_}
 use native.Mathlib.Omega.{arith}
-use lib.ListN.{length, getD}
-use Rattle.writer.specs.Stream.{countByte, leadIn, headBytes}
-use Rattle.writer.proofs.Over.{then-copied, over-is}
-use Rattle.writer.proofs.Parts.{head-parts}
+use lib.ListN.{getD}
+use Rattle.writer.specs.Stream.{leadIn}
+use Rattle.writer.proofs.Over.{then-copied}
+use Rattle.chain.specs.Paper.{no-windows}
 use borrow.Author.Needs.{needs}
 use Rattle.writer.proofs.put.head.Statement.{statement}
 use Rattle.writer.proofs.put.head.Tie as tie
@@ -54,13 +53,12 @@ same-length : tie.Need-same-length
 same-length c = search needs
 
 returns : tie.Need-returns
-returns c = let a = (c .before .before .before .before .before .before .before .before .before .before .args) in
-    let l : length (a .t3) ≡ 3 = search needs in
-    let u : List ℕ = a .control ∷ getD (a .t3) 0 0 ∷ getD (a .t3) 1 0 ∷ getD (a .t3) 2 0 ∷ countByte (a .n) ∷ [] in (
-      omega arith,
-      then-copied (c .before .before .before .before .before .before .before .lead-in .result) (leadIn (a .mode)) u (a .out .now) _ _ (c .before .before .before .before .before .before .before .lead-in .ensures .0) (omega arith) (c .before .before .before .before .before .before .before .lead-in .ensures .1) (c .before .before .copy .ensures)
-          ∙ over-is (leadIn (a .mode) ++ u) (headBytes (a .mode) (a .control) (a .t3) (a .n)) (a .out .now) (head-parts (a .mode) (a .control) (a .t3) l (a .n)),
-    )
+returns c =
+    let start = c .before .before .before .before .before .before .before in
+    let a = start .before .before .before .args in
+    let lead = start .lead-in in
+    let u : List ℕ = a .control ∷ getD (a .t3) 0 0 ∷ getD (a .t3) 1 0 ∷ getD (a .t3) 2 0 ∷ (no-windows - a .n) ∷ [] in
+    (omega arith, then-copied (lead .result) (leadIn (a .mode)) u (a .out .now) _ _ (lead .ensures .0) (omega arith) (lead .ensures .1) (c .before .before .copy .ensures))
 
 pub head-spec : {M : Type 1} → statement M
 head-spec =

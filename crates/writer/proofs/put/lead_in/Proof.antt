@@ -4,7 +4,8 @@ use mathlib.Core.List.{[], _∷_}
 use native.Mathlib.Omega.{arith}
 use Rattle.chain.proofs.Tests.{tests}
 use Rattle.chain.specs.Paper.{preamble}
-use Rattle.writer.specs.Stream.{null, leadIn}
+use Rattle.grammar.specs.Tables.{nullByte}
+use Rattle.writer.specs.Stream.{leadIn}
 use Rattle.writer.proofs.Over.{copied}
 use borrow.Author.Needs.{needs}
 use Rattle.writer.proofs.put.lead_in.Statement.{statement}
@@ -24,7 +25,9 @@ same-length c = search needs
 
 returns : tie.Need-returns
 unfolding leadIn
-returns c = simp ((c .before .before .before .before .before .if1 .taken)) (refl, (c .before .before .copy .ensures) ∙ copied (null ∷ preamble ∷ []) ((c .before .before .before .before .before .before .before .args .out) .now) (search needs))
+returns c =
+    let t = c .before .before .before .before .before in
+    simp (t .if1 .taken) (refl, c .before .before .copy .ensures ∙ copied (nullByte ∷ preamble ∷ []) (t .before .before .args .out .now) (search needs))
 
 slice-aggregate-copy-2 : tie.Need-slice-aggregate-copy-2
 slice-aggregate-copy-2 c = search needs
@@ -37,7 +40,9 @@ same-length-2 c = search needs
 
 returns-2 : tie.Need-returns-2
 unfolding leadIn
-returns-2 c = simp (c .before .before .before .before .before .if2 .taken) (refl, (c .before .before .copy2 .ensures) ∙ copied (preamble ∷ preamble ∷ []) ((c .before .before .before .before .before .before .before .before .args .out) .now) (search needs))
+returns-2 c =
+    let t = c .before .before .before .before .before in
+    simp (t .if2 .taken) (refl, c .before .before .copy2 .ensures ∙ copied (preamble ∷ preamble ∷ []) (t .before .before .before .args .out .now) (search needs))
 
 slice-aggregate-copy-3 : tie.Need-slice-aggregate-copy-3
 slice-aggregate-copy-3 c = search needs
@@ -50,7 +55,9 @@ same-length-3 c = search needs
 
 returns-3 : tie.Need-returns-3
 unfolding leadIn
-returns-3 c = simp ((c .before .before .before .before .before .before .if1 .left)) (search tests, (c .before .before .copy3 .ensures) ∙ copied (preamble ∷ []) ((c .before .before .before .before .before .before .before .before .args .out) .now) (omega arith) ∙ search tests)
+returns-3 c =
+    let t = c .before .before .before .before .before .before in
+    simp (t .if1 .left) (search tests, c .before .before .copy3 .ensures ∙ copied (preamble ∷ []) (t .before .before .args .out .now) (omega arith) ∙ search tests)
 
 pub lead-in-spec : {M : Type 1} → statement M
 lead-in-spec =

@@ -1,8 +1,9 @@
-use mathlib.Core.Path.{refl}
-use mathlib.Core.List.{[]}
+use mathlib.Core.Path.{refl, _∙_}
+use mathlib.Core.List.{[], _++_}
 use native.Mathlib.Omega.{arith}
 use Rattle.writer.specs.Stream.{windowBytes}
-use Rattle.writer.proofs.Over.{then-copied}
+use Rattle.writer.proofs.Over.{then-copied, over-is}
+use Rattle.writer.proofs.Parts.{window-parts}
 use borrow.Author.Needs.{needs}
 use Rattle.writer.proofs.put.window.Statement.{statement}
 use Rattle.writer.proofs.put.window.Tie as tie
@@ -33,10 +34,15 @@ same-length : tie.Need-same-length
 same-length c = search needs
 
 returns : tie.Need-returns
-returns c = let a = (c .before .before .before .before .before .before .before .before .before .before .args) in (
-  omega arith,
-  then-copied 5 (windowBytes (a .start) (a .end) []) (a .cells .now) (a .out .now) _ _ refl (c .before .before .before .before .before .before .before .before .before .before .pre) (c .before .before .before .before .before .before .framing .ensures) (c .before .before .copy .ensures),
-)
+returns c =
+    let framed = c .before .before .before .before .before .before in
+    let start = framed .before .before .before .before in
+    let a = start .args in (
+      omega arith,
+      then-copied 5 (windowBytes (a .start) (a .end) []) (a .cells .now) (a .out .now) _ _ refl (start .pre) (framed .framing .ensures) (c .before .before .copy .ensures)
+          ∙ over-is (windowBytes (a .start) (a .end) [] ++ a .cells .now) (windowBytes (a .start) (a .end) (a .cells .now)) (a .out .now)
+          (window-parts (a .start) (a .end) (a .cells .now)),
+    )
 
 pub window-spec : {M : Type 1} → statement M
 window-spec =

@@ -8,7 +8,7 @@ use Rattle.writer.proofs.put.windows.Statement.{statement}
 use Rattle.writer.proofs.put.windows.Tie as tie
 use Rattle.writer.proofs.put.windows.Reads as reads
 use Rattle.writer.proofs.put.windows.Lts as lts
-use Rattle.writer.proofs.refusal.width.Reads as width-reads
+use Rattle.chain.proofs.window.width.Reads as width-reads
 use Rattle.writer.proofs.put.window.Reads as window-reads
 
 abbrev Inv-loop : tie.InvT-loop
@@ -45,8 +45,12 @@ part-window-start : tie.Need-part-window-start Inv-loop μ-loop
 part-window-start c = search needs
 
 part-window-end : tie.Need-part-window-end Inv-loop μ-loop
-part-window-end c = let s = (c .before .before .before .before .before .before .before .before .before .args) in let l = (c .before .before .before .before .loop) in
-    enough (s .starts .now) (s .ends .now) (s .cells .now) (s .out .now) (c .before .before .before .before .before .before .before .before .before .pre .0) (c .before .before .before .before .before .before .before .before .before .pre .3) (l .out) (l .at) (l .from) (l .i) (c .width .result) (l .inv) (search needs) (c .width .ensures .0) .0
+part-window-end c =
+    let l = c .before .before .before .before in
+    let start = l .before .before .before .before .before in
+    let s = start .args in
+    let k = l .loop in
+    enough (s .starts .now) (s .ends .now) (s .cells .now) (s .out .now) (start .pre .0) (start .pre .3) (k .out) (k .at) (k .from) (k .i) (c .width .result) (k .inv) (search needs) (c .width .ensures .0) .0
 
 sub-window-2 : tie.Need-sub-window-2 Inv-loop μ-loop
 sub-window-2 c = search needs
@@ -58,9 +62,14 @@ part-window-end-2 : tie.Need-part-window-end-2 Inv-loop μ-loop
 part-window-end-2 c = search needs
 
 window-requires : tie.Need-window-requires Inv-loop μ-loop
-window-requires c κs = let s = (c .before .before .before .before .before .before .before .before .before .before .before .args) in let l = (c .before .before .before .before .before .before .loop) in
-    let k = enough (s .starts .now) (s .ends .now) (s .cells .now) (s .out .now) (c .before .before .before .before .before .before .before .before .before .before .before .pre .0) (c .before .before .before .before .before .before .before .before .before .before .before .pre .3) (l .out) (l .at) (l .from) (l .i) (c .before .before .width .result) (l .inv) (search needs) (c .before .before .width .ensures .0) in
-    room (s .cells .now) (l .out) (l .at) (l .from) (c .before .before .width .result) (k .0) (k .1)
+window-requires c κs =
+    let w = c .before .before in
+    let l = w .before .before .before .before in
+    let start = l .before .before .before .before .before in
+    let s = start .args in
+    let k = l .loop in
+    let e = enough (s .starts .now) (s .ends .now) (s .cells .now) (s .out .now) (start .pre .0) (start .pre .3) (k .out) (k .at) (k .from) (k .i) (w .width .result) (k .inv) (search needs) (w .width .ensures .0) in
+    room (s .cells .now) (k .out) (k .at) (k .from) (w .width .result) (e .0) (e .1)
 
 add-at : tie.Need-add-at Inv-loop μ-loop
 add-at c = search needs
@@ -72,15 +81,26 @@ loop-less : tie.Need-loop-less Inv-loop μ-loop
 loop-less c = search needs
 
 loop-again : tie.Need-loop-again Inv-loop μ-loop
-loop-again c = let s = (c .before .before .before .before .before .before .before .before .before .before .before .before .before .before .args) in let l = (c .before .before .before .before .before .before .before .before .before .loop) in
-    turn (s .starts .now) (s .ends .now) (s .cells .now) (s .out .now) (c .before .before .before .before .before .before .before .before .before .before .before .before .before .before .pre .0) (c .before .before .before .before .before .before .before .before .before .before .before .before .before .before .pre .3) (l .out) _ (l .at) (l .from) (l .i) (c .before .before .before .before .before .width .result) (c .before .before .window .result) (l .inv) (search needs) (c .before .before .before .before .before .width .ensures .0) (c .before .before .window .ensures .0) (c .before .before .window .ensures .1)
+loop-again c =
+    let v = c .before .before in
+    let w = v .before .before .before in
+    let l = w .before .before .before .before in
+    let start = l .before .before .before .before .before in
+    let s = start .args in
+    let k = l .loop in
+    turn (s .starts .now) (s .ends .now) (s .cells .now) (s .out .now) (start .pre .0) (start .pre .3) (k .out) _ (k .at) (k .from) (k .i) (w .width .result) (v .window .result) (k .inv) (search needs) (w .width .ensures .0)
+    (v .window .ensures .0) (v .window .ensures .1)
 
 same-length : tie.Need-same-length Inv-loop μ-loop
 same-length c = (c .before .loop .inv .2)
 
 returns : tie.Need-returns Inv-loop μ-loop
-returns c = let s = (c .before .before .before .before .before .before .args) in let l = (c .before .loop) in
-    done (s .starts .now) (s .ends .now) (s .cells .now) (s .out .now) (c .before .before .before .before .before .before .pre .0) (c .before .before .before .before .before .before .pre .3) (l .out) (l .at) (l .from) (l .i) (l .inv) (search needs)
+returns c =
+    let l = c .before in
+    let start = l .before .before .before .before .before in
+    let s = start .args in
+    let k = l .loop in
+    done (s .starts .now) (s .ends .now) (s .cells .now) (s .out .now) (start .pre .0) (start .pre .3) (k .out) (k .at) (k .from) (k .i) (k .inv) (search needs)
 
 pub windows-spec : {M : Type 1} → statement M
 windows-spec =

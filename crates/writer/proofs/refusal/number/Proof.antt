@@ -45,7 +45,10 @@ sum-requires c κs = search needs
 
 returns-7 : tie.Need-returns-7
 unfolding numberOf
-returns-7 c = simp (← (c .before .before .before .before .before .before .before .before .before .size-of .ensures), (c .before .before .before .before .before .before .before .if2 .left), ← (c .before .before .before .before .windows-number .ensures), ← (c .before .sum .ensures .0)) (search tests)
+returns-7 c =
+    let n = c .before .before .before .before in
+    let m = n .before .before .before in
+    simp (← (m .before .before .size-of .ensures), m .if2 .left, ← (n .windows-number .ensures), ← (c .before .sum .ensures .0)) (search tests)
 
 lead-requires : tie.Need-lead-requires
 lead-requires c κs = search needs
@@ -64,11 +67,19 @@ add-if8-3 c = search needs
 
 returns-8 : tie.Need-returns-8
 unfolding numberOf
-returns-8 c = simp (← (c .before .before .before .before .before .before .before .before .before .before .before .size-of .ensures), (c .before .before .before .before .before .before .before .before .before .if2 .left), ← (c .before .before .before .before .before .before .windows-number .ensures), ← (c .before .before .before .sum .ensures .0), ← (c .before .lead .ensures .0)) (search tests)
+returns-8 c =
+    let s = c .before .before .before in
+    let n = s .before .before .before in
+    let m = n .before .before .before in
+    simp (← (m .before .before .size-of .ensures), m .if2 .left, ← (n .windows-number .ensures), ← (s .sum .ensures .0), ← (c .before .lead .ensures .0)) (search tests)
 
 returns-9 : tie.Need-returns-9
 unfolding numberOf
-returns-9 c = simp (← (c .before .before .before .before .before .before .before .before .before .before .before .size-of .ensures), (c .before .before .before .before .before .before .before .before .before .if2 .left), ← (c .before .before .before .before .before .before .windows-number .ensures), ← (c .before .before .before .sum .ensures .0), ← (c .before .lead .ensures .0)) (search tests)
+returns-9 c =
+    let s = c .before .before .before in
+    let n = s .before .before .before in
+    let m = n .before .before .before in
+    simp (← (m .before .before .size-of .ensures), m .if2 .left, ← (n .windows-number .ensures), ← (s .sum .ensures .0), ← (c .before .lead .ensures .0)) (search tests)
 
 pub number-spec : {M : Type 1} → statement M
 number-spec =

@@ -9,7 +9,7 @@ use Rattle.writer.proofs.refusal.sum.Statement.{statement}
 use Rattle.writer.proofs.refusal.sum.Tie as tie
 use Rattle.writer.proofs.refusal.sum.Reads as reads
 use Rattle.writer.proofs.refusal.sum.Lts as lts
-use Rattle.writer.proofs.refusal.width.Reads as width-reads
+use Rattle.chain.proofs.window.width.Reads as width-reads
 
 abbrev Inv-loop : tie.InvT-loop
 Inv-loop starts ends total₀ i₀ total i = (i ≤ length starts) × (total ≤ 65536 * i) × (sumOf starts ends ≡ total + sumOf (drop i starts) (drop i ends))

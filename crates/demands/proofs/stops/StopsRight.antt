@@ -37,8 +37,8 @@ use Rattle.demands.specs.Loader.{AfterSlice, Idle, Mode}
 use Rattle.demands.specs.Demand2.{Seen, slices, joined}
 use Rattle.demands.specs.Demand3.{load, Whole, offered, Closes, Stopped, Demand3}
 use Rattle.demands.specs.Ours.{ours}
-use Rattle.demands.proofs.LoadRuns.{begun, left, slice-is, begun-feeds, started, load-is, open-front, slices-join}
-use Rattle.demands.proofs.Seen.{seen}
+use Rattle.demands.proofs.loads.LoadRuns.{begun, left, slice-is, begun-feeds, started, load-is, open-front, slices-join}
+use Rattle.demands.proofs.loads.RunSeen.{seen}
 
 -- ---- the closing call
 

@@ -25,8 +25,8 @@ use Rattle.grammar.proofs.Accepted.{Accepted, accepted-done, accepted-open, don
 use Rattle.grammar.proofs.FitsAccepted.{stream-accepted}
 use Rattle.grammar.proofs.WalkMeant.{walk-meant}
 use Rattle.grammar.proofs.StartOpens.{count-sound}
-use Rattle.demands.proofs.Seen.{seen}
-use Rattle.demands.proofs.LoadRuns.{begun, left, slice-is, begun-feeds, started, open-front, slices-join}
+use Rattle.demands.proofs.loads.RunSeen.{seen}
+use Rattle.demands.proofs.loads.LoadRuns.{begun, left, slice-is, begun-feeds, started, open-front, slices-join}
 use Rattle.chain.proofs.Bytes.{bytes-front, bytes-take}
 use Rattle.grammar.proofs.StreamShort.{stream-short, bytes-long}
 

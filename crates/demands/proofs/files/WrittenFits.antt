@@ -10,26 +10,27 @@ use lib.ListN.{length, getD, take, drop, replicate, length-replicate}
 use lib.Seq.{take-at}
 use Rattle.chain.specs.declared.Chain.{Chain}
 use Rattle.chain.specs.Paper.{preamble, postamble, no-windows, serial-external, serial-internal, two-preambles, done}
-use Rattle.chain.specs.Kinds.{sizeOf}
+use Rattle.chain.specs.Kinds.{sizeOf, baseOf}
 use Rattle.chain.proofs.Sizes.{size-most}
 use Rattle.chain.proofs.Bytes.{bytes-append, bytes-front, bytes-rest}
 use Rattle.chain.proofs.ByCases.{by-test}
 use Rattle.writer.specs.Stream.{leadIn, streamOf}
-use Rattle.writer.specs.Write.{writeNumber, writeOf}
+use Rattle.writer.specs.Write.{writeNumber}
 use Rattle.writer.proofs.Accepted.{Accepted, accepted}
+use Rattle.writer.proofs.Lengths.{front}
+use Rattle.writer.proofs.TablesFit.{from-cells, from-fits}
+use Rattle.grammar.proofs.FromTables.{from-starts, from-ends, from-many, from-nulled}
 use Rattle.hunt.proofs.Framed.{framed-hunt}
 use Rattle.grammar.specs.Stream.{Window, Section, sectionsSent, streamSent}
 use Rattle.grammar.specs.Sent.{bytesOf}
 use Rattle.grammar.specs.Fits.{AllFit, SectionFits}
 use Rattle.chain.specs.Bytes.{Bytes}
-use Rattle.demands.specs.Loader.{AfterWrite}
 use Rattle.demands.specs.Demand3.{offered}
 use Rattle.demands.specs.Files.{Room, wanted, given, Lists, Wrote, Demand2b}
-use Rattle.grammar.specs.Tables.{cells, nulled, nullsOff}
+use Rattle.grammar.specs.Tables.{cells, windowsFrom, nulled}
 use Rattle.demands.specs.Ours.{ours}
-use Rattle.grammar.proofs.SectionBytes.{windowsBytes, section-bytes, serial-one, starts-many}
-use Rattle.demands.proofs.Written.{wrote, wrote-bytes, Made, made}
-use Rattle.demands.proofs.Listed.{listed}
+use Rattle.grammar.proofs.SectionBytes.{windowsBytes, section-bytes, serial-one}
+use Rattle.demands.proofs.files.SectionLists.{listed}
 
 -- ---- what is written are bytes
 
@@ -80,62 +81,59 @@ given-is c mode x u =
 
 -- ---- the clause
 
--- what the writer was given, as a section that it writes and that fits
+-- what the writer was given is a section that fits, and what it writes is that section
 module _ (kind mode control a0 a1 a2 : ℕ) (ss es d out : List ℕ) (c : Chain) (u : Bytes (control ∷ a0 ∷ a1 ∷ a2 ∷ d))
     (z : ours .write kind mode control (a0 ∷ a1 ∷ a2 ∷ []) ss es d out .written .number ≡ done) where
   abbrev bs : List ℕ
   bs = offered (ours .write kind mode control (a0 ∷ a1 ∷ a2 ∷ []) ss es d out)
 
+  abbrev section : Section
+  section = record { control = control; address0 = a0; address1 = a1; address2 = a2; windows = windowsFrom ss es d }
+
   tells : Accepted kind mode ss es (length d) (length (streamOf mode control (a0 ∷ a1 ∷ a2 ∷ []) ss es d)) (length out)
-  unfolding writeOf writeNumber
+  unfolding writeNumber
   tells = accepted kind mode ss es (length d) (length (streamOf mode control (a0 ∷ a1 ∷ a2 ∷ []) ss es d)) (length out) z
 
-  module _ (k : Made (sizeOf kind) ss es d) where
-    abbrev section : Section
-    section = record { control = control; address0 = a0; address1 = a1; address2 = a2; windows = k .windows }
+  cells-are : cells (windowsFrom ss es d) ≡ d
+  cells-are = from-cells ss es d (tells .same) (tells .all)
 
-    section-fits : SectionFits (sizeOf kind) section
-    section-fits =
-        let few = tells .few in
-        record { few = omega (arith, starts-many (k .windows), ap length (k .starts-are)); fit = k .fits }
+  section-fits : SectionFits (sizeOf kind) section
+  section-fits =
+      let few = tells .few in
+      let n = from-many ss es d (tells .same) in
+      record { few = omega arith; fit = from-fits (sizeOf kind) ss es d (tells .same) (tells .inside) (tells .all) }
 
-    bytes-are : bs ≡ wanted c mode section
-    bytes-are =
-        let n : nullsOff section ≡ section = ap (λ (ws : List Window). record { control = control; address0 = a0; address1 = a1; address2 = a2; windows = ws }) (k .zero-nulls) in
-        let w : AfterWrite = wrote kind mode section out c section-fits in
-        let e : ours .write kind mode control (a0 ∷ a1 ∷ a2 ∷ []) ss es d out ≡ w = rw (k .starts-are, k .ends-are, k .cells-are) in
-        ap offered e ∙ wrote-bytes kind mode section out c section-fits (ap (λ (x : AfterWrite). x .written .number) (sym e) ∙ z) ∙ ap (wanted c mode) n
+  bytes-are : bs ≡ wanted c mode section
+  unfolding streamOf baseOf
+  bytes-are = front kind mode control (a0 ∷ a1 ∷ a2 ∷ []) ss es d out _ _ (record { answer = refl; output = refl }) z .1
 
-    section-bytes-small : Bytes (bytesOf (sectionsSent c 0 section []))
-    section-bytes-small =
-        section-small c kind section section-fits (k .zero-nulls) (subst (λ (l : List ℕ). Bytes (control ∷ a0 ∷ a1 ∷ a2 ∷ l)) (sym (k .cells-are)) u)
+  given-are : given ours mode bs ≡ bytesOf (streamSent c mode section [])
+  given-are =
+      ap (given ours mode) bytes-are
+      ∙ given-is c mode section
+      (section-small c kind section section-fits (from-nulled ss es d) (subst (λ (l : List ℕ). Bytes (control ∷ a0 ∷ a1 ∷ a2 ∷ l)) (sym cells-are) u))
 
-    given-are : given ours mode bs ≡ bytesOf (streamSent c mode section [])
-    given-are = ap (given ours mode) bytes-are ∙ given-is c mode section section-bytes-small
+  lists : (ts te to : List ℕ) → Room (length (windowsFrom ss es d)) ts te to
+      → Lists mode (given ours mode bs) (length (given ours mode bs)) section (ours .list kind mode (given ours mode bs) ts te to)
+  lists ts te to room =
+      subst (λ (l : List ℕ). Lists mode l (length l) section (ours .list kind mode l ts te to)) (sym given-are)
+      (subst (λ (l : List ℕ). Lists mode l (length (bytesOf (streamSent c mode section []))) section (ours .list kind mode l ts te to))
+      (append-nil (bytesOf (streamSent c mode section [])))
+      (listed kind mode c section [] section-fits (tells .known) (record { least = tells .least; most = tells .most }) ts te to (room .starts) (room .ends) (room .offsets)))
 
-    lists : (ts te to : List ℕ) → Room (length (k .windows)) ts te to
-        → Lists mode (given ours mode bs) (length (given ours mode bs)) section (ours .list kind mode (given ours mode bs) ts te to)
-    lists ts te to room =
-        subst (λ (l : List ℕ). Lists mode l (length l) section (ours .list kind mode l ts te to)) (sym given-are)
-        (subst (λ (l : List ℕ). Lists mode l (length (bytesOf (streamSent c mode section []))) section (ours .list kind mode l ts te to))
-        (append-nil (bytesOf (streamSent c mode section [])))
-        (listed kind mode c section [] section-fits (tells .known) (record { least = tells .least; most = tells .most }) ts te to (room .starts) (room .ends) (room .offsets)))
-
-    wrote-it : Wrote ours kind mode control a0 a1 a2 ss es d bs c
-    wrote-it =
-        record {
-          windows = k .windows;
-          fits = section-fits;
-          zero-nulls = k .zero-nulls;
-          starts-are = k .starts-are;
-          ends-are = k .ends-are;
-          cells-are = k .cells-are;
-          bytes = bytes-are;
-          given-are = given-are;
-          lists = lists;
-        }
+  wrote : Wrote ours kind mode control a0 a1 a2 ss es d bs c
+  wrote =
+      record {
+        windows = windowsFrom ss es d;
+        fits = section-fits;
+        zero-nulls = from-nulled ss es d;
+        starts-are = from-starts ss es d (tells .same);
+        ends-are = from-ends ss es d (tells .same);
+        cells-are = cells-are;
+        bytes = bytes-are;
+        given-are = given-are;
+        lists = lists;
+      }
 
 pub second-b : Demand2b ours
-second-b kind mode control a0 a1 a2 ss es d out c u z =
-    let a = tells kind mode control a0 a1 a2 ss es d out c u z in
-    wrote-it kind mode control a0 a1 a2 ss es d out c u z (made (sizeOf kind) ss es d (a .same) (a .inside) (a .all))
+second-b kind mode control a0 a1 a2 ss es d out c u z = wrote kind mode control a0 a1 a2 ss es d out c u z

@@ -16,8 +16,8 @@ use Rattle.demands.specs.Demand3.{offered}
 use Rattle.demands.specs.Files.{Room, Lists, One, rewritten, Again}
 use Rattle.grammar.specs.Tables.{starts, ends, cells}
 use Rattle.demands.specs.Ours.{ours}
-use Rattle.demands.proofs.Written.{addressOf, wrote, wrote-number, wrote-bytes}
-use Rattle.demands.proofs.Listed.{listed}
+use Rattle.demands.proofs.files.SectionWritten.{addressOf, wrote, wrote-number, wrote-bytes}
+use Rattle.demands.proofs.files.SectionLists.{listed}
 
 -- one device has one section
 pub alone : (c : Chain) (s : Section) (ss : List Section) → c .count ≡ 1 → SectionsFit c 0 s ss → ss ≡ []

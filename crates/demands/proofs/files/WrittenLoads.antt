@@ -18,7 +18,7 @@ use Rattle.demands.specs.Demand2.{Loads, Demand2a}
 use Rattle.demands.specs.Demand3.{offered}
 use Rattle.demands.specs.Files.{Wrote, Demand2b}
 use Rattle.grammar.proofs.StartOpens.{count-sound}
-use Rattle.demands.proofs.SecondB.{section-small}
+use Rattle.demands.proofs.files.WrittenFits.{section-small}
 
 -- the section that was written
 abbrev pub sectionOf : ℕ → ℕ → ℕ → ℕ → List Window → Section

@@ -9,16 +9,16 @@ use lib.ListN.{length, take}
 use Rattle.chain.specs.declared.Chain.{Chain}
 use Rattle.chain.specs.Paper.{serial-external, serial-internal, two-preambles, done}
 use Rattle.chain.proofs.ByCases.{by-test}
-use Rattle.writer.specs.Stream.{null, leadIn}
+use Rattle.writer.specs.Stream.{leadIn}
 use Rattle.grammar.specs.Stream.{Window, Section, streamSent}
 use Rattle.grammar.specs.Sent.{bytesOf}
 use Rattle.demands.specs.Loader.{Loader, AfterList}
 use Rattle.grammar.specs.Fits.{Reading}
 use Rattle.demands.specs.Demand3.{offered}
-use Rattle.grammar.specs.Tables.{nulled, nullsOff}
+use Rattle.grammar.specs.Tables.{nullByte, nulled, nullsOff}
 use Rattle.demands.specs.Files.{wanted, Room, One, rewritten, Again}
 use Rattle.grammar.proofs.SectionBytes.{serial-one}
-use Rattle.demands.proofs.Relisted.{alone}
+use Rattle.demands.proofs.files.ReadAgain.{alone}
 
 -- the lead-in of the mode, as against the preambles that the machine is given
 module _ (c : Chain) (mode : ℕ) (x : Section) where
@@ -26,7 +26,7 @@ module _ (c : Chain) (mode : ℕ) (x : Section) where
   unfolding leadIn
   wanted-same e = rw e (by-test (eqb mode two-preambles) (λ q. rw q) (λ q. rw q))
 
-  wanted-serial : eqb mode serial-external || eqb mode serial-internal ≡ true → wanted c mode x ≡ null ∷ bytesOf (streamSent c mode x [])
+  wanted-serial : eqb mode serial-external || eqb mode serial-internal ≡ true → wanted c mode x ≡ nullByte ∷ bytesOf (streamSent c mode x [])
   unfolding leadIn
   wanted-serial e = rw (e, serial-one mode e)
 
@@ -59,7 +59,7 @@ module _ (l : Loader) (kind mode : ℕ) (bs : List ℕ) (t : ℕ) (c : Chain) (t
       → (rewritten l kind mode bs r out .written .number ≡ done) × (offered (rewritten l kind mode bs r out) ≡ take t bs)
   comes-back e out h = comes (take t bs) (wanted-same c mode (nullsOff (x .first)) e ∙ stream-is) out h
 
-  pub comes-back-serial : eqb mode serial-external || eqb mode serial-internal ≡ true → (out : List ℕ) → length (null ∷ take t bs) ≤ length out
-      → (rewritten l kind mode bs r out .written .number ≡ done) × (offered (rewritten l kind mode bs r out) ≡ null ∷ take t bs)
+  pub comes-back-serial : eqb mode serial-external || eqb mode serial-internal ≡ true → (out : List ℕ) → length (nullByte ∷ take t bs) ≤ length out
+      → (rewritten l kind mode bs r out .written .number ≡ done) × (offered (rewritten l kind mode bs r out) ≡ nullByte ∷ take t bs)
   comes-back-serial e out h =
-      comes (null ∷ take t bs) (wanted-serial c mode (nullsOff (x .first)) e ∙ ap (λ (w : List ℕ). null ∷ w) stream-is) out h
+      comes (nullByte ∷ take t bs) (wanted-serial c mode (nullsOff (x .first)) e ∙ ap (λ (w : List ℕ). nullByte ∷ w) stream-is) out h

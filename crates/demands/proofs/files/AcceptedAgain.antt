@@ -28,8 +28,8 @@ use Rattle.grammar.proofs.Parse.{parse}
 use Rattle.grammar.proofs.WalkMeant.{reading}
 use Rattle.grammar.proofs.Accepted.{Used, used, used-taken}
 use Rattle.chain.proofs.Bytes.{bytes-take}
-use Rattle.demands.proofs.LoadRuns.{load-is}
-use Rattle.demands.proofs.Relisted.{relisted}
+use Rattle.demands.proofs.loads.LoadRuns.{load-is}
+use Rattle.demands.proofs.files.ReadAgain.{relisted}
 
 
 -- ---- a write from its start

@@ -1,0 +1,2 @@
+-- Stops: what a stopped run leaves, its closing bytes, and the stream started afresh.
+pub mod StopsRight
