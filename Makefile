@@ -1,5 +1,5 @@
 # make demo   lists a sample stream, then runs a controller's main loop in C: stop, close, start afresh; save, drop, pick up
-# make test   header, C example, comparison with the model, stack, listing program on its inputs; then every proof, must-fail edit and program, from nothing: the last line is rt's own
+# make test   what the documents cite, header, C example, comparison with the model, stack, listing program on its inputs; then every proof, must-fail edit and program, from nothing: the last line is rt's own
 # make lib    the archive for C: target/staticlib/libat6000.a
 # make bench  the archive against safe Rust and memcpy (docs/SPEED.md)
 # make fmt    lay out the Rattle sources
@@ -14,6 +14,7 @@ demo: lib
 	sh examples/run.sh $(archive)
 
 test: lib
+	python3 tests/docs/cited.py
 	sh tests/header/run.sh
 	sh examples/run.sh $(archive) | diff examples/controller.out -
 	sh tests/compare/run.sh $(archive)
