@@ -12,7 +12,7 @@ use Rattle.chain.specs.Rules.{pick}
 use Rattle.chain.proofs.ByCases.{by-test}
 use Rattle.grammar.specs.Stream.{baseAt, Window, Section, windowSent, windowsSent, sectionsSent, streamSent}
 use Rattle.grammar.specs.Sent.{frame, bytesOf}
-use Rattle.grammar.specs.Tables.{starts, ends, offsets, nulled}
+use Rattle.grammar.specs.Tables.{starts, ends, offsets}
 use Rattle.grammar.proofs.OneReading.{bytes-append, data-bytes}
 
 abbrev pub windowBytes : Window → List ℕ
@@ -71,7 +71,3 @@ ends-many (w ∷ ws) = ap suc (ends-many ws)
 pub offsets-many : (o : ℕ) (ws : List Window) → length (offsets o ws) ≡ length ws
 offsets-many o [] = refl
 offsets-many o (w ∷ ws) = ap suc (offsets-many (o + 5 + length (w .bytes)) ws)
-
-pub nulled-many : (ws : List Window) → length (nulled ws) ≡ length ws
-nulled-many [] = refl
-nulled-many (w ∷ ws) = ap suc (nulled-many ws)

@@ -1,13 +1,14 @@
 -- The walk of an accepted stream is every reading of it. Assumes nothing.
 use Prim.Native.Nat.{ℕ, _≤_, _<_}
-use mathlib.Core.Path.{_≡_, sym, _∙_}
+use mathlib.Core.Path.{_≡_, ap, sym, _∙_}
 use mathlib.Core.List.{List}
 use Rattle.chain.specs.declared.Chain.{Chain}
+use Rattle.chain.specs.Paper.{writing}
 use Rattle.chain.specs.Set.{with·place}
 use Rattle.machine.specs.Calls.{openedPlace}
 use Rattle.chain.specs.Bytes.{Bytes}
 use Rattle.grammar.specs.Fits.{Reading, meant}
-use Rattle.grammar.specs.Stores.{walkOf}
+use Rattle.grammar.specs.Stores.{walkOf, putsIn, putsOf}
 use Rattle.grammar.proofs.Accepted.{Accepted}
 use Rattle.grammar.proofs.Parse.{parse, parsed-bytes}
 use Rattle.grammar.proofs.OneReading.{one-reading}
@@ -25,3 +26,8 @@ module _ (c : Chain) (mode check : ℕ) (bs : List ℕ) (n : 0 < c .count) (m : 
   walk-meant x =
       let p = parse c mode check bs n m u h in
       p .sends ∙ one-reading c mode (p .first) (p .others) (x .first) (x .others) (p .fits) (x .fits) (parsed-bytes c mode check bs h p ∙ sym (x .bytes))
+
+-- so a write of it stores what any reading of it means for cells
+pub puts-meant : (c : Chain) (mode : ℕ) (bs : List ℕ) → 0 < c .count → c .count ≤ 8 → Bytes bs
+    → Accepted (with·place c (openedPlace mode writing)) bs → (x : Reading c mode bs) → putsOf (with·place c (openedPlace mode writing)) bs ≡ putsIn (meant x)
+puts-meant c mode bs n m u h x = ap putsIn (walk-meant c mode writing bs n m u h x)

@@ -1,26 +1,18 @@
 -- How long the writer's streams are, and what an accepted call leaves. Assumes nothing.
 use Prim.Native.Nat.{ℕ, zero, suc, _+_, _-_, _≤_, _<_}
 use mathlib.Core.Path.{_≡_, refl, sym, ap, _∙_}
-use mathlib.Core.List.{List, [], _∷_, _++_}
+use mathlib.Core.List.{List, [], _∷_}
 use native.Mathlib.Omega.{arith}
-use lib.ListN.{length, getD, take}
+use lib.ListN.{length, take}
 use lib.Seq.{take-at}
 use Rattle.chain.specs.declared.Written.{Written}
-use Rattle.chain.specs.Paper.{postamble, no-windows, first-mode, done}
+use Rattle.chain.specs.Paper.{first-mode, done}
 use Rattle.chain.specs.Kinds.{sizeOf}
 use Rattle.writer.specs.Stream.{leadIn, streamOf}
-use Rattle.grammar.specs.Tables.{windowsFrom}
 use Rattle.chain.specs.Output.{over}
 use Rattle.writer.specs.Write.{sumOf, writeNumber, Write}
 use Rattle.writer.proofs.Accepted.{accepts}
 use Rattle.writer.proofs.Parts.{stream-length}
-
--- no windows: the count byte is FF
-pub no-windows-stream : (mode control : ℕ) (address : List ℕ)
-    → streamOf mode control address [] [] []
-    ≡ leadIn mode ++ (control ∷ getD address 0 0 ∷ getD address 1 0 ∷ getD address 2 0 ∷ no-windows ∷ postamble ∷ [])
-unfolding streamOf windowsFrom
-no-windows-stream mode control address = refl
 
 whole-sum : (size : ℕ) → 0 < size → sumOf (0 ∷ []) ((size - 1) ∷ []) ≡ size
 unfolding sumOf
