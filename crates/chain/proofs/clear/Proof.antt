@@ -11,8 +11,6 @@ use native.Mathlib.Omega.{arith}
 use lib.ListN.{length}
 use Rattle.chain.proofs.clear.Statement.{statement}
 use Rattle.chain.proofs.clear.Tie as tie
-use Rattle.chain.proofs.clear.Reads as reads
-use Rattle.chain.proofs.clear.Lts as lts
 
 abbrev Inv-loop : tie.InvT-loop
 Inv-loop mem₀ n i₀ mem i = (length mem ≡ length mem₀) × (i ≤ n) × (take i mem ≡ replicate i 0)
@@ -23,34 +21,13 @@ abbrev μ-loop : tie.MeasureT-loop
 loop-holds : tie.Need-loop-holds Inv-loop μ-loop
 loop-holds c = (refl, search needs, refl)
 
-slice-write-mem : tie.Need-slice-write-mem Inv-loop μ-loop
-slice-write-mem c = search needs
-
-add-i : tie.Need-add-i Inv-loop μ-loop
-add-i c = search needs
-
-loop-less : tie.Need-loop-less Inv-loop μ-loop
-loop-less c = search needs
-
 loop-again : tie.Need-loop-again Inv-loop μ-loop
 loop-again c = (search needs, search needs, clear-turn (c .before .loop .mem) (c .before .loop .i) (search needs) (c .before .loop .inv .2))
-
-same-length : tie.Need-same-length Inv-loop μ-loop
-same-length c = search needs
 
 returns : tie.Need-returns Inv-loop μ-loop
 returns c = clear-end (c .before .loop .mem) (c .before .loop .i) (length ((c .before .before .args .mem) .now)) (search needs) (omega arith) (c .before .loop .inv .2)
 
 pub clear-spec : {M : Type 1} → statement M
 clear-spec =
-    tie.close
-    (tie.spec
-    Inv-loop
-    μ-loop
-    loop-holds
-    slice-write-mem
-    add-i
-    loop-less
-    loop-again
-    same-length
-    returns)
+    tie.close (tie.spec Inv-loop μ-loop loop-holds (search needs) (search needs) (search needs) loop-again
+    (search needs) returns)

@@ -31,7 +31,6 @@ use Rattle.chain.proofs.Bytes.{bytes-take}
 use Rattle.demands.proofs.loads.LoadRuns.{load-is}
 use Rattle.demands.proofs.files.ReadAgain.{relisted}
 
-
 -- ---- a write from its start
 
 module _ (c : Chain) (m : List ℕ) (kind mode : ℕ) (bs : List ℕ) (i : Idle c m) (o : Mode mode) where

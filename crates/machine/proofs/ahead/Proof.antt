@@ -13,4 +13,5 @@ unfolding aheadOf
 returns-2 c = simp (c .gone-on .ensures, ← (c .before .before .number .ensures), c .before .if1 .left)
 
 pub ahead-spec : {M : Type 1} → statement M
-ahead-spec = tie.close (tie.spec (λ c κs. search needs) (λ c κs. search needs) returns (λ c κs. search needs) returns-2)
+ahead-spec =
+    tie.close (tie.spec (λ c κs. search needs) (λ c κs. search needs) returns (λ c κs. search needs) returns-2)

@@ -13,4 +13,5 @@ unfolding dropOf
 returns-2 c = record { made = simp (← (c .before .before .open-number .ensures), c .before .if1 .left, c .closed-place .ensures) }
 
 pub drop-spec : {M : Type 1} → statement M
-drop-spec = tie.close (tie.spec (λ c κs. search needs) returns (λ c κs. search needs) returns-2)
+drop-spec =
+    tie.close (tie.spec (λ c κs. search needs) returns (λ c κs. search needs) returns-2)

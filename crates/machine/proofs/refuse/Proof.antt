@@ -14,4 +14,5 @@ unfolding refuseOf
 returns-2 c = simp (c .before .over .ensures, c .closed-place .ensures) (search tests)
 
 pub refuse-spec : {M : Type 1} → statement M
-refuse-spec = tie.close (tie.spec (λ c κs. search needs) returns (λ c κs. search needs) (λ c κs. search needs) returns-2)
+refuse-spec =
+    tie.close (tie.spec (λ c κs. search needs) returns (λ c κs. search needs) (λ c κs. search needs) returns-2)

@@ -22,5 +22,5 @@ returns-2 c = record { fed = (c .not-fed .ensures) ∙ simp (← (c .before .bef
 
 pub slice-spec : {M : Type 1} → statement M
 slice-spec =
-    tie.close
-    (tie.spec (λ c κs. search needs) (λ c κs. search needs) (λ c κs. search needs) (λ c. search needs) returns (λ c κs. search needs) returns-2)
+    tie.close (tie.spec (λ c κs. search needs) (λ c κs. search needs) (λ c κs. search needs)
+    (λ c. search needs) returns (λ c κs. search needs) returns-2)

@@ -25,4 +25,5 @@ returns-4 c = record { made = simp (start-passes (c .before .before .before .bef
 
 pub start-spec : {M : Type 1} → statement M
 start-spec =
-    tie.close (tie.spec (λ c κs. search needs) returns returns-2 returns-3 (λ c κs. search needs) (λ c κs. search needs) returns-4)
+    tie.close (tie.spec (λ c κs. search needs) returns returns-2 returns-3 (λ c κs. search needs)
+    (λ c κs. search needs) returns-4)

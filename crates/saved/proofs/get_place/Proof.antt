@@ -12,27 +12,6 @@ use borrow.Author.Needs.{needs}
 use Rattle.saved.proofs.get_place.Statement.{statement}
 use Rattle.saved.proofs.get_place.Tie as tie
 
-get32-requires : tie.Need-get32-requires
-get32-requires c κs = search needs
-
-get16-requires : tie.Need-get16-requires
-get16-requires c κs = search needs
-
-get16-requires-2 : tie.Need-get16-requires-2
-get16-requires-2 c κs = search needs
-
-get16-requires-3 : tie.Need-get16-requires-3
-get16-requires-3 c κs = search needs
-
-get32-requires-2 : tie.Need-get32-requires-2
-get32-requires-2 c κs = search needs
-
-get32-requires-3 : tie.Need-get32-requires-3
-get32-requires-3 c κs = search needs
-
-closed-place-requires : tie.Need-closed-place-requires
-closed-place-requires c κs = search needs
-
 cast-p : tie.Need-cast-p
 cast-p c =
     search (fits-and-r, fits-lit)
@@ -53,9 +32,6 @@ cast-p-5 : tie.Need-cast-p-5
 cast-p-5 c =
     search (fits-and-r, fits-lit)
 
-shared-slice-read-p : tie.Need-shared-slice-read-p
-shared-slice-read-p c = search needs
-
 returns : tie.Need-returns
 returns c =
     let s = c .before .before .before .before .before .before .before .before .before .args .s .now in
@@ -75,19 +51,6 @@ returns c =
 
 pub get-place-spec : {M : Type 1} → statement M
 get-place-spec =
-    tie.close
-    (tie.spec
-    get32-requires
-    get16-requires
-    get16-requires-2
-    get16-requires-3
-    get32-requires-2
-    get32-requires-3
-    closed-place-requires
-    cast-p
-    cast-p-2
-    cast-p-3
-    cast-p-4
-    cast-p-5
-    shared-slice-read-p
-    returns)
+    tie.close (tie.spec (λ c κs. search needs) (λ c κs. search needs) (λ c κs. search needs)
+    (λ c κs. search needs) (λ c κs. search needs) (λ c κs. search needs) (λ c κs. search needs) cast-p
+    cast-p-2 cast-p-3 cast-p-4 cast-p-5 (λ c. search needs) returns)

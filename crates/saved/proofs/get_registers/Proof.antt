@@ -1,7 +1,6 @@
 use Prim.Native.Nat.{ℕ, _<_, _^_}
 use lib.ListN.{getD}
-use mathlib.Core.Path.{_≡_, ap, sym, _∙_}
-use mathlib.Core.List.{List, [], _∷_}
+use mathlib.Core.Path.{ap, sym, _∙_}
 use Rattle.saved.specs.Fields.{bytes}
 use Rattle.saved.specs.Layout.{rows, numberRows, byteCount, registersOf}
 use Rattle.saved.proofs.Packing.{fields-packed}
@@ -10,9 +9,6 @@ use Rattle.saved.proofs.Pieces.{held-is, fit-bytes}
 use borrow.Author.Needs.{needs}
 use Rattle.saved.proofs.get_registers.Statement.{statement}
 use Rattle.saved.proofs.get_registers.Tie as tie
-
-eight-requires : tie.Need-eight-requires
-eight-requires c κs = search needs
 
 returns : tie.Need-returns
 returns c =
@@ -24,4 +20,5 @@ returns c =
     ∙ ap (registersOf rows) (sym (held-is s byte (c .before .before .pre)))
 
 pub get-registers-spec : {M : Type 1} → statement M
-get-registers-spec = tie.close (tie.spec eight-requires returns)
+get-registers-spec =
+    tie.close (tie.spec (λ c κs. search needs) returns)

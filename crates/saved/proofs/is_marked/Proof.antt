@@ -11,9 +11,6 @@ use borrow.Author.Needs.{needs}
 use Rattle.saved.proofs.is_marked.Statement.{statement}
 use Rattle.saved.proofs.is_marked.Tie as tie
 
-get32-requires : tie.Need-get32-requires
-get32-requires c κs = search needs
-
 returns : tie.Need-returns
 returns c =
     let s = c .before .before .args .s .now in
@@ -22,4 +19,5 @@ returns c =
     ∙ ap (λ (v : List ℕ). allOf (marks (form1 .number) rows v)) (sym (held-is s (λ i. c .before .shared-slice-known .given i .fits) (c .before .before .pre)))
 
 pub is-marked-spec : {M : Type 1} → statement M
-is-marked-spec = tie.close (tie.spec get32-requires returns)
+is-marked-spec =
+    tie.close (tie.spec (λ c κs. search needs) returns)

@@ -9,4 +9,5 @@ returns c =
     ored-one 16 2 (c .args .a ∷ c .args .b ∷ []) (c .fits .a .fits, (c .fits .b .fits, tt)) refl
 
 pub join16-spec : {M : Type 1} → statement M
-join16-spec = tie.close (tie.spec returns)
+join16-spec =
+    tie.close (tie.spec returns)

@@ -9,4 +9,5 @@ returns c =
     ored-one 32 4 (c .args .a ∷ c .args .b ∷ c .args .c ∷ c .args .d ∷ []) (c .fits .a .fits, (c .fits .b .fits, (c .fits .c .fits, (c .fits .d .fits, tt)))) refl
 
 pub join32-spec : {M : Type 1} → statement M
-join32-spec = tie.close (tie.spec returns)
+join32-spec =
+    tie.close (tie.spec returns)

@@ -9,9 +9,6 @@ use borrow.Author.Needs.{needs}
 use Rattle.saved.proofs.pick_up.Statement.{statement}
 use Rattle.saved.proofs.pick_up.Tie as tie
 
-state-number-requires : tie.Need-state-number-requires
-state-number-requires c κs = search needs
-
 returns : tie.Need-returns
 returns c = let a = (c .before .before .before .before .args) in
     let e = (c .before .state-number .ensures) in
@@ -37,18 +34,6 @@ returns-3 c = let a = (c .before .before .before .before .before .before .before
           (pick-up-asked (a .c) (length (a .mem .now)) (a .saved .now) e ∙ simp (ne-eqb _ _ (c .before .if2 .left), ne-eqb _ _ (c .if3 .taken)));
     }
 
-get-registers-requires : tie.Need-get-registers-requires
-get-registers-requires c κs = search needs
-
-get-place-requires : tie.Need-get-place-requires
-get-place-requires c κs = search needs
-
-is-marked-requires : tie.Need-is-marked-requires
-is-marked-requires c κs = search needs
-
-well-formed-requires : tie.Need-well-formed-requires
-well-formed-requires c κs = search needs
-
 returns-4 : tie.Need-returns-4
 returns-4 c = let a = (c .before .before .before .before .before .before .before .before .before .before .before .before .args) in
     let e = sym (c .before .before .before .before .before .before .before .before .before .state-number .ensures) ∙ (c .before .before .before .before .before .before .before .before .if1 .left) in
@@ -72,15 +57,5 @@ returns-5 c = let a = (c .before .before .before .before .before .before .before
 
 pub pick-up-spec : {M : Type 1} → statement M
 pick-up-spec =
-    tie.close
-    (tie.spec
-    state-number-requires
-    returns
-    returns-2
-    returns-3
-    get-registers-requires
-    get-place-requires
-    is-marked-requires
-    well-formed-requires
-    returns-4
-    returns-5)
+    tie.close (tie.spec (λ c κs. search needs) returns returns-2 returns-3 (λ c κs. search needs)
+    (λ c κs. search needs) (λ c κs. search needs) (λ c κs. search needs) returns-4 returns-5)

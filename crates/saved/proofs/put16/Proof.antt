@@ -14,20 +14,8 @@ use Rattle.saved.proofs.put16.Tie as tie
 cast-out : tie.Need-cast-out
 cast-out c = search (fits-and-r, fits-lit)
 
-slice-write-out : tie.Need-slice-write-out
-slice-write-out c = search needs
-
 cast-out-2 : tie.Need-cast-out-2
 cast-out-2 c = search (fits-and-r, fits-lit)
-
-add-out : tie.Need-add-out
-add-out c = search needs
-
-slice-write-out-2 : tie.Need-slice-write-out-2
-slice-write-out-2 c = search needs
-
-same-length : tie.Need-same-length
-same-length c = search needs
 
 returns : tie.Need-returns
 returns c = let a = (c .args) in
@@ -37,5 +25,5 @@ returns c = let a = (c .args) in
 
 pub put16-spec : {M : Type 1} → statement M
 put16-spec =
-    tie.close
-    (tie.spec cast-out slice-write-out cast-out-2 add-out slice-write-out-2 same-length returns)
+    tie.close (tie.spec cast-out (λ c. search needs) cast-out-2 (λ c. search needs) (λ c. search needs)
+    (λ c. search needs) returns)

@@ -1,26 +1,17 @@
-use Prim.Native.Nat.{ℕ, _<_, _^_}
+use Prim.Native.Nat.{ℕ}
 use mathlib.Core.Path.{_≡_, sym, ap, _∙_}
 use mathlib.Core.List.{List, [], _∷_, _++_}
 use lib.ListN.{length, set, length-set}
 use lib.Seq.{sets, sets-eq}
 use Rattle.chain.specs.Output.{over}
-use Rattle.saved.specs.Fields.{Fit, bytes}
-use Rattle.saved.specs.Layout.{_takes_, control, numberRows, registerRows, rows, widths, values, byteCount}
+use Rattle.saved.specs.Fields.{bytes}
+use Rattle.saved.specs.Layout.{_takes_, control, numberRows, registerRows, values, byteCount}
 use Rattle.saved.proofs.Packing.{fields-packed}
 use Rattle.saved.proofs.Regroup.{elems-is}
 use Rattle.saved.proofs.Pieces.{all, cut, groups, written, fit-rows, numbers-are, saved-is}
 use borrow.Author.Needs.{needs}
 use Rattle.saved.proofs.put_place.Statement.{statement}
 use Rattle.saved.proofs.put_place.Tie as tie
-
-put-numbers-requires : tie.Need-put-numbers-requires
-put-numbers-requires c κs = search needs
-
-put-registers-requires : tie.Need-put-registers-requires
-put-registers-requires c κs = search needs
-
-slice-write-out : tie.Need-slice-write-out
-slice-write-out c = search needs
 
 same-length : tie.Need-same-length
 same-length c =
@@ -50,5 +41,4 @@ returns c =
 
 pub put-place-spec : {M : Type 1} → statement M
 put-place-spec =
-    tie.close
-    (tie.spec put-numbers-requires put-registers-requires slice-write-out same-length returns)
+    tie.close (tie.spec (λ c κs. search needs) (λ c κs. search needs) (λ c. search needs) same-length returns)

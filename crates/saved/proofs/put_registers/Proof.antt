@@ -14,21 +14,6 @@ use borrow.Author.Needs.{needs}
 use Rattle.saved.proofs.put_registers.Statement.{statement}
 use Rattle.saved.proofs.put_registers.Tie as tie
 
-first4-requires : tie.Need-first4-requires
-first4-requires c κs = search needs
-
-put32-requires : tie.Need-put32-requires
-put32-requires c κs = search needs
-
-last4-requires : tie.Need-last4-requires
-last4-requires c κs = search needs
-
-put32-requires-2 : tie.Need-put32-requires-2
-put32-requires-2 c κs = search needs
-
-same-length : tie.Need-same-length
-same-length c = search needs
-
 -- what is known of the registers, where the function starts
 register : (s : tie.Start) (i : ℕ) → getD (s .args .registers) i 0 < 2 ^ 8
 register s i = let f : Fits w8 (getD (s .args .registers) i 0) = search needs in f .fits
@@ -57,5 +42,5 @@ returns c =
 
 pub put-registers-spec : {M : Type 1} → statement M
 put-registers-spec =
-    tie.close
-    (tie.spec first4-requires put32-requires last4-requires put32-requires-2 same-length returns)
+    tie.close (tie.spec (λ c κs. search needs) (λ c κs. search needs) (λ c κs. search needs)
+    (λ c κs. search needs) (λ c. search needs) returns)

@@ -15,9 +15,6 @@ use borrow.Author.Needs.{needs}
 use Rattle.saved.proofs.save.Statement.{statement}
 use Rattle.saved.proofs.save.Tie as tie
 
-open-number-requires : tie.Need-open-number-requires
-open-number-requires c κs = search needs
-
 returns : tie.Need-returns
 returns c =
     let a = c .before .before .before .before .args in
@@ -62,9 +59,6 @@ put-place-requires c κs =
     let n = narrow (a .c) len (a .c .registers) (a .c .place) (o .0) (open-well (a .c) (o .1 .0) (o .1 .1 .0) .1) in
     (fits 1 (a .c .registers) (a .c .place) (lit< tt) (ranged s) n (next s), c .before .before .before .if2 .left)
 
-same-length : tie.Need-same-length
-same-length c = search needs
-
 returns-3 : tie.Need-returns-3
 unfolding savedIn
 returns-3 c =
@@ -76,5 +70,5 @@ returns-3 c =
 
 pub save-spec : {M : Type 1} → statement M
 save-spec =
-    tie.close
-    (tie.spec open-number-requires returns returns-2 put-place-requires same-length returns-3)
+    tie.close (tie.spec (λ c κs. search needs) returns returns-2 put-place-requires (λ c. search needs)
+    returns-3)

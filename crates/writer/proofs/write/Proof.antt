@@ -2,13 +2,6 @@ use Rattle.writer.proofs.Answers.{refused, ready, wrote}
 use borrow.Author.Needs.{needs}
 use Rattle.writer.proofs.write.Statement.{statement}
 use Rattle.writer.proofs.write.Tie as tie
-use Rattle.writer.proofs.write.Reads as reads
-use Rattle.writer.proofs.write.Lts as lts
-use Rattle.writer.proofs.put.stream.Reads as stream-reads
-use Rattle.writer.proofs.refusal.number.Reads as number-reads
-
-number-requires : tie.Need-number-requires
-number-requires c κs = search needs
 
 returns : tie.Need-returns
 returns c = let a = (c .before .before .before .before .before .before .args) in
@@ -17,9 +10,6 @@ returns c = let a = (c .before .before .before .before .before .before .args) in
 stream-requires : tie.Need-stream-requires
 stream-requires c κs = let a = (c .before .before .before .before .before .before .before .args) in
     ready (a .kind) (a .mode) (a .control) (a .address) (a .starts .now) (a .ends .now) (a .cells .now) (a .out .now) (c .before .before .number .result) (c .before .before .number .ensures) (c .before .if1 .left)
-
-same-length : tie.Need-same-length
-same-length c = search needs
 
 returns-2 : tie.Need-returns-2
 returns-2 c =
@@ -30,4 +20,5 @@ returns-2 c =
     wrote (a .kind) (a .mode) (a .control) (a .address) (a .starts .now) (a .ends .now) (a .cells .now) (a .out .now) (n .number .result) (n .number .ensures) (q .if1 .left) (s .stream .result) _ (s .stream .ensures .0) (s .stream .ensures .1)
 
 pub write-spec : {M : Type 1} → statement M
-write-spec = tie.close (tie.spec number-requires returns stream-requires same-length returns-2)
+write-spec =
+    tie.close (tie.spec (λ c κs. search needs) returns stream-requires (λ c. search needs) returns-2)

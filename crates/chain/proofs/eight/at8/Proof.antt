@@ -5,16 +5,11 @@ use lib.ListN.{length, List·getD-eq-default}
 use Rattle.chain.proofs.eight.at8.Statement.{statement}
 use Rattle.chain.proofs.eight.at8.Tie as tie
 
-array-read-result : tie.Need-array-read-result
-array-read-result c = search needs
-
-returns : tie.Need-returns
-returns c = search needs
-
 returns-2 : tie.Need-returns-2
 returns-2 c =
     let eight : length (c .before .args .t1) ≡ 8 = search needs in
     sym (List·getD-eq-default (c .before .args .t1) 0 (omega arith))
 
 pub at8-spec : {M : Type 1} → statement M
-at8-spec = tie.close (tie.spec array-read-result returns returns-2)
+at8-spec =
+    tie.close (tie.spec (search needs) (search needs) returns-2)

@@ -7,8 +7,6 @@ use Rattle.chain.specs.Calls.{firstOnly}
 use Rattle.chain.proofs.Turns.{first-turn, first-end}
 use Rattle.chain.proofs.eight.first_only.Statement.{statement}
 use Rattle.chain.proofs.eight.first_only.Tie as tie
-use Rattle.chain.proofs.eight.first_only.Reads as reads
-use Rattle.chain.proofs.eight.first_only.Lts as lts
 
 abbrev Inv-loop : tie.InvT-loop
 Inv-loop n ys₀ i₀ ys i = (length ys ≡ 8) × (firstOnly n ys₀ ≡ take i ys ++ replicate (8 - i) 0)
@@ -20,15 +18,6 @@ loop-holds : tie.Need-loop-holds Inv-loop μ-loop
 unfolding firstOnly
 loop-holds c = let eight : length (c .args .xs) ≡ 8 = search needs in (search needs, rw eight)
 
-array-write-ys : tie.Need-array-write-ys Inv-loop μ-loop
-array-write-ys c = search needs
-
-add-i : tie.Need-add-i Inv-loop μ-loop
-add-i c = search needs
-
-loop-less : tie.Need-loop-less Inv-loop μ-loop
-loop-less c = search needs
-
 loop-again : tie.Need-loop-again Inv-loop μ-loop
 loop-again c = (search needs, (c .before .loop .inv .1) ∙ first-turn (c .before .loop .ys) (c .before .loop .i) (search needs) (search needs))
 
@@ -37,5 +26,5 @@ returns c = sym ((c .before .loop .inv .1) ∙ first-end (c .before .loop .ys) (
 
 pub first-only-spec : {M : Type 1} → statement M
 first-only-spec =
-    tie.close
-    (tie.spec Inv-loop μ-loop loop-holds array-write-ys add-i loop-less loop-again returns)
+    tie.close (tie.spec Inv-loop μ-loop loop-holds (search needs) (search needs) (search needs) loop-again
+    returns)

@@ -10,8 +10,6 @@ use Rattle.chain.proofs.Tests.{tests}
 use Rattle.chain.proofs.Turns.{zeros-turn, zeros-end}
 use Rattle.chain.proofs.eight.unused_zero.Statement.{statement}
 use Rattle.chain.proofs.eight.unused_zero.Tie as tie
-use Rattle.chain.proofs.eight.unused_zero.Reads as reads
-use Rattle.chain.proofs.eight.unused_zero.Lts as lts
 
 -- all from the element k on are zero
 abbrev zeros-from : List ℕ → ℕ → Bool
@@ -26,19 +24,10 @@ abbrev μ-loop : tie.MeasureT-loop
 loop-holds : tie.Need-loop-holds Inv-loop μ-loop
 loop-holds c = ap (zeros-from (c .args .t1)) {x = c .args .n} {y = c .args .n + (0 - c .args .n)} (omega arith)
 
-add-i : tie.Need-add-i Inv-loop μ-loop
-add-i c = search needs
-
-loop-less : tie.Need-loop-less Inv-loop μ-loop
-loop-less c = search needs
-
 loop-again : tie.Need-loop-again Inv-loop μ-loop
 loop-again c = let l = c .before .before .loop in
     let a = c .before .before .before .args in
     l .inv ∙ ap (zeros-from (a .t1)) {x = a .n + (l .i - a .n)} {y = a .n + (l .i + 1 - a .n)} (omega arith)
-
-array-read-if2 : tie.Need-array-read-if2 Inv-loop μ-loop
-array-read-if2 c = search needs
 
 returns : tie.Need-returns Inv-loop μ-loop
 unfolding unusedZero
@@ -46,12 +35,6 @@ returns c = let l = c .before .before .before .loop in
     let a = c .before .before .before .before .args in
     let eight : length (a .t1) ≡ 8 = search needs in
     sym (l .inv ∙ ap (zeros-from (a .t1)) {x = a .n + (l .i - a .n)} {y = l .i} (omega arith) ∙ zeros-turn (a .t1) (l .i) (omega arith) ∙ search tests)
-
-add-i-2 : tie.Need-add-i-2 Inv-loop μ-loop
-add-i-2 c = search needs
-
-loop-less-2 : tie.Need-loop-less-2 Inv-loop μ-loop
-loop-less-2 c = search needs
 
 loop-again-2 : tie.Need-loop-again-2 Inv-loop μ-loop
 loop-again-2 c = let l = c .before .before .before .loop in
@@ -69,17 +52,5 @@ returns-2 c = let l = c .before .loop in
 
 pub unused-zero-spec : {M : Type 1} → statement M
 unused-zero-spec =
-    tie.close
-    (tie.spec
-    Inv-loop
-    μ-loop
-    loop-holds
-    add-i
-    loop-less
-    loop-again
-    array-read-if2
-    returns
-    add-i-2
-    loop-less-2
-    loop-again-2
-    returns-2)
+    tie.close (tie.spec Inv-loop μ-loop loop-holds (search needs) (search needs) loop-again (search needs)
+    returns (search needs) (search needs) loop-again-2 returns-2)

@@ -5,14 +5,6 @@ use lib.ListN.{length}
 use lib.Seq.{set-out}
 use Rattle.chain.proofs.eight.with8.Statement.{statement}
 use Rattle.chain.proofs.eight.with8.Tie as tie
-use Rattle.chain.proofs.eight.with8.Reads as reads
-use Rattle.chain.proofs.eight.with8.Lts as lts
-
-array-write-ys : tie.Need-array-write-ys
-array-write-ys c = search needs
-
-returns : tie.Need-returns
-returns c = search needs
 
 returns-2 : tie.Need-returns-2
 returns-2 c =
@@ -20,4 +12,5 @@ returns-2 c =
     sym (set-out (c .before .args .xs) (c .before .args .i) (c .before .args .v) (omega arith))
 
 pub with8-spec : {M : Type 1} → statement M
-with8-spec = tie.close (tie.spec array-write-ys returns returns-2)
+with8-spec =
+    tie.close (tie.spec (search needs) (search needs) returns-2)

@@ -8,10 +8,6 @@ use Rattle.chain.specs.Kinds.{baseOf}
 use Rattle.chain.proofs.Base.{base-suc, base-out}
 use Rattle.chain.proofs.kinds.base_of.Statement.{statement}
 use Rattle.chain.proofs.kinds.base_of.Tie as tie
-use Rattle.chain.proofs.kinds.base_of.Reads as reads
-use Rattle.chain.proofs.kinds.base_of.Lts as lts
-use Rattle.chain.proofs.eight.at8.Reads as at8-reads
-use Rattle.chain.proofs.kinds.size_of.Reads as size-of-reads
 
 abbrev Inv-loop : tie.InvT-loop
 Inv-loop kinds device sum₀ i₀ sum i = (i ≤ device) × (i ≤ 8) × (sum ≤ 65535 * i) × (sum ≡ baseOf kinds i)
@@ -29,24 +25,6 @@ returns c =
       search needs,
     )
 
-at8-requires : tie.Need-at8-requires Inv-loop μ-loop
-at8-requires c κs = search needs
-
-size-of-requires : tie.Need-size-of-requires Inv-loop μ-loop
-size-of-requires c κs = search needs
-
-cast-sum : tie.Need-cast-sum Inv-loop μ-loop
-cast-sum c = search needs
-
-add-sum : tie.Need-add-sum Inv-loop μ-loop
-add-sum c = search needs
-
-add-i : tie.Need-add-i Inv-loop μ-loop
-add-i c = search needs
-
-loop-less : tie.Need-loop-less Inv-loop μ-loop
-loop-less c = search needs
-
 loop-again : tie.Need-loop-again Inv-loop μ-loop
 loop-again c =
     let eight : length (c .before .before .before .before .before .args .kinds) ≡ 8 = search needs in
@@ -60,17 +38,5 @@ returns-2 c =
 
 pub base-of-spec : {M : Type 1} → statement M
 base-of-spec =
-    tie.close
-    (tie.spec
-    Inv-loop
-    μ-loop
-    loop-holds
-    returns
-    at8-requires
-    size-of-requires
-    cast-sum
-    add-sum
-    add-i
-    loop-less
-    loop-again
-    returns-2)
+    tie.close (tie.spec Inv-loop μ-loop loop-holds returns (search needs) (search needs) (search needs)
+    (search needs) (search needs) (search needs) loop-again returns-2)

@@ -8,10 +8,6 @@ use Rattle.chain.proofs.Tests.{tests}
 use Rattle.chain.proofs.Turns.{known-turn, known-past, known-end}
 use Rattle.chain.proofs.kinds.known.Statement.{statement}
 use Rattle.chain.proofs.kinds.known.Tie as tie
-use Rattle.chain.proofs.kinds.known.Reads as reads
-use Rattle.chain.proofs.kinds.known.Lts as lts
-use Rattle.chain.proofs.eight.at8.Reads as at8-reads
-use Rattle.chain.proofs.kinds.size_of.Reads as size-of-reads
 
 abbrev Inv-loop : tie.InvT-loop
 Inv-loop kinds n i₀ i = (i ≤ n) × (knownOf kinds n ≡ knownOf (drop i kinds) (n - i))
@@ -27,21 +23,9 @@ returns : tie.Need-returns Inv-loop μ-loop
 returns c = let eight : length (c .before .before .before .args .kinds) ≡ 8 = search needs in
     sym (c .before .before .loop .inv .1 ∙ known-past (c .before .before .before .args .kinds) (c .before .before .before .args .n) (c .before .before .loop .i) (omega arith))
 
-at8-requires : tie.Need-at8-requires Inv-loop μ-loop
-at8-requires c κs = search needs
-
-size-of-requires : tie.Need-size-of-requires Inv-loop μ-loop
-size-of-requires c κs = search needs
-
 returns-2 : tie.Need-returns-2 Inv-loop μ-loop
 returns-2 c = let eight : length (c .before .before .before .before .before .before .args .kinds) ≡ 8 = search needs in
     sym (c .before .before .before .before .before .loop .inv .1 ∙ known-turn (c .before .before .before .before .before .before .args .kinds) (c .before .before .before .before .before .before .args .n) (c .before .before .before .before .before .loop .i) (search needs) (omega arith) ∙ simp (← c .before .before .at8 .ensures, ← c .before .size-of .ensures) (search tests))
-
-add-i : tie.Need-add-i Inv-loop μ-loop
-add-i c = search needs
-
-loop-less : tie.Need-loop-less Inv-loop μ-loop
-loop-less c = search needs
 
 loop-again : tie.Need-loop-again Inv-loop μ-loop
 loop-again c = let eight : length (c .before .before .before .before .before .before .args .kinds) ≡ 8 = search needs in
@@ -52,16 +36,5 @@ returns-3 c = sym (c .before .loop .inv .1 ∙ known-end (c .before .before .arg
 
 pub known-spec : {M : Type 1} → statement M
 known-spec =
-    tie.close
-    (tie.spec
-    Inv-loop
-    μ-loop
-    loop-holds
-    returns
-    at8-requires
-    size-of-requires
-    returns-2
-    add-i
-    loop-less
-    loop-again
-    returns-3)
+    tie.close (tie.spec Inv-loop μ-loop loop-holds returns (search needs) (search needs) returns-2
+    (search needs) (search needs) loop-again returns-3)

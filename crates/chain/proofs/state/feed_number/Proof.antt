@@ -3,12 +3,10 @@ use borrow.Author.Needs.{needs}
 use Rattle.chain.proofs.state.feed_number.Statement.{statement}
 use Rattle.chain.proofs.state.feed_number.Tie as tie
 
-open-number-requires : tie.Need-open-number-requires
-open-number-requires c κs = search needs
-
 returns : tie.Need-returns
 unfolding openNumber feedNumber
 returns c = c .open-number .ensures
 
 pub feed-number-spec : {M : Type 1} → statement M
-feed-number-spec = tie.close (tie.spec open-number-requires returns)
+feed-number-spec =
+    tie.close (tie.spec (search needs) returns)

@@ -3,20 +3,10 @@ use Rattle.chain.proofs.Tests.{tests}
 use borrow.Author.Needs.{needs}
 use Rattle.chain.proofs.state.open_number.Statement.{statement}
 use Rattle.chain.proofs.state.open_number.Tie as tie
-use Rattle.chain.proofs.state.open_number.Reads as reads
-use Rattle.chain.proofs.state.open_number.Lts as lts
-use Rattle.chain.proofs.state.bad_chain.Reads as bad-chain-reads
-use Rattle.chain.proofs.state.ill_formed.Reads as ill-formed-reads
-
-bad-chain-requires : tie.Need-bad-chain-requires
-bad-chain-requires c κs = search needs
 
 returns : tie.Need-returns
 unfolding stateNumber openNumber
 returns c = simp (← (c .before .bad-chain .ensures), (c .if1 .taken))
-
-ill-formed-requires : tie.Need-ill-formed-requires
-ill-formed-requires c κs = search needs
 
 returns-2 : tie.Need-returns-2
 unfolding stateNumber openNumber
@@ -32,5 +22,4 @@ returns-4 c = simp (← (c .before .before .before .before .before .bad-chain .e
 
 pub open-number-spec : {M : Type 1} → statement M
 open-number-spec =
-    tie.close
-    (tie.spec bad-chain-requires returns ill-formed-requires returns-2 returns-3 returns-4)
+    tie.close (tie.spec (search needs) returns (search needs) returns-2 returns-3 returns-4)

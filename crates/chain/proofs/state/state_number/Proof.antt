@@ -2,20 +2,10 @@ use Rattle.chain.specs.State.{stateNumber, openNumber}
 use borrow.Author.Needs.{needs}
 use Rattle.chain.proofs.state.state_number.Statement.{statement}
 use Rattle.chain.proofs.state.state_number.Tie as tie
-use Rattle.chain.proofs.state.state_number.Reads as reads
-use Rattle.chain.proofs.state.state_number.Lts as lts
-use Rattle.chain.proofs.state.bad_chain.Reads as bad-chain-reads
-use Rattle.chain.proofs.state.ill_formed.Reads as ill-formed-reads
-
-bad-chain-requires : tie.Need-bad-chain-requires
-bad-chain-requires c κs = search needs
 
 returns : tie.Need-returns
 unfolding stateNumber openNumber
 returns c = simp (← (c .before .bad-chain .ensures), (c .if1 .taken))
-
-ill-formed-requires : tie.Need-ill-formed-requires
-ill-formed-requires c κs = search needs
 
 returns-2 : tie.Need-returns-2
 unfolding stateNumber openNumber
@@ -27,4 +17,4 @@ returns-3 c = simp (← (c .before .before .before .bad-chain .ensures), (c .bef
 
 pub state-number-spec : {M : Type 1} → statement M
 state-number-spec =
-    tie.close (tie.spec bad-chain-requires returns ill-formed-requires returns-2 returns-3)
+    tie.close (tie.spec (search needs) returns (search needs) returns-2 returns-3)

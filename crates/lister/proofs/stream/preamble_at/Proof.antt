@@ -6,4 +6,5 @@ use Rattle.lister.proofs.stream.preamble_at.Tie as tie
 
 pub preamble-at-spec : {M : Type 1} → statement M
 unfolding preambleAt
-preamble-at-spec = tie.close (tie.spec (λ c. (search tests, omega arith)) (λ c. (search tests, omega arith)))
+preamble-at-spec =
+    tie.close (tie.spec (λ c. (search tests, omega arith)) (λ c. (search tests, omega arith)))

@@ -43,5 +43,5 @@ returns-4 c =
 pub text-spec : {M : Type 1} → statement M
 text-spec =
     tie.close (tie.spec (search needs) returns (search needs) (search needs) returns-2 (search needs)
-    (search needs) (search needs) (search needs) (search needs) (λ c κs. search needs) returns-3 (search needs)
-    (search needs) (search needs) (search needs) returns-4)
+    (search needs) (search needs) (search needs) (search needs) (λ c κs. search needs) returns-3
+    (search needs) (search needs) (search needs) (search needs) returns-4)

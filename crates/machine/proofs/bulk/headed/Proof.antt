@@ -6,4 +6,5 @@ returns : tie.Need-returns
 returns c = simp ((c .counting .ensures))
 
 pub headed-spec : {M : Type 1} → statement M
-headed-spec = tie.close (tie.spec (λ c κs. search needs) returns)
+headed-spec =
+    tie.close (tie.spec (λ c κs. search needs) returns)

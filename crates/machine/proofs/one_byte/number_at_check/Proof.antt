@@ -27,16 +27,6 @@ returns-5 c = (c .begun .ensures) ∙ simp ((c .before .before .before .before .
 
 pub number-at-check-spec : {M : Type 1} → statement M
 number-at-check-spec =
-    tie.close
-    (tie.spec
-    returns
-    returns-2
-    returns-3
-    (λ c. search needs)
-    (λ c. search needs)
-    (λ c. search needs)
-    returns-4
-    (λ c κs. search needs)
-    (λ c κs. search needs)
-    (λ c κs. search needs)
+    tie.close (tie.spec returns returns-2 returns-3 (λ c. search needs) (λ c. search needs)
+    (λ c. search needs) returns-4 (λ c κs. search needs) (λ c κs. search needs) (λ c κs. search needs)
     returns-5)

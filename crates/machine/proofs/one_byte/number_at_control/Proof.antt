@@ -16,4 +16,5 @@ unfolding numberOf
 returns-3 c = simp ((c .before .before .pre)) (search tests)
 
 pub number-at-control-spec : {M : Type 1} → statement M
-number-at-control-spec = tie.close (tie.spec returns returns-2 returns-3)
+number-at-control-spec =
+    tie.close (tie.spec returns returns-2 returns-3)

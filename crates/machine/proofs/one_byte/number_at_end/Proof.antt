@@ -13,4 +13,5 @@ unfolding numberOf
 returns-2 c = simp (c .before .before .before .before .pre, ← (c .before .before .before .with-low .ensures), ← (c .before .size-here .ensures), c .if1 .left) (search tests)
 
 pub number-at-end-spec : {M : Type 1} → statement M
-number-at-end-spec = tie.close (tie.spec (λ c κs. search needs) (λ c κs. search needs) returns returns-2)
+number-at-end-spec =
+    tie.close (tie.spec (λ c κs. search needs) (λ c κs. search needs) returns returns-2)

@@ -14,4 +14,5 @@ unfolding numberOf
 returns-2 c = (c .begun .ensures) ∙ simp ((c .before .before .before .before .pre), ← (c .before .at8 .ensures)) (search tests)
 
 pub number-at-second-spec : {M : Type 1} → statement M
-number-at-second-spec = tie.close (tie.spec returns (λ c κs. search needs) (λ c κs. search needs) returns-2)
+number-at-second-spec =
+    tie.close (tie.spec returns (λ c κs. search needs) (λ c κs. search needs) returns-2)

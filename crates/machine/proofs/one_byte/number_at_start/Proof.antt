@@ -13,4 +13,5 @@ unfolding numberOf
 returns-2 c = simp (c .before .before .before .pre, ← (c .before .before .with-low .ensures), ← (c .before .size-here .ensures)) (search tests)
 
 pub number-at-start-spec : {M : Type 1} → statement M
-number-at-start-spec = tie.close (tie.spec (λ c κs. search needs) (λ c κs. search needs) returns returns-2)
+number-at-start-spec =
+    tie.close (tie.spec (λ c κs. search needs) (λ c κs. search needs) returns returns-2)

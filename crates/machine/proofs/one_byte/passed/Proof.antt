@@ -18,4 +18,5 @@ returns-3 c = search tests
 
 pub passed-spec : {M : Type 1} → statement M
 passed-spec =
-    tie.close (tie.spec (λ c. search needs) (λ c. search needs) (λ c. search needs) (λ c. search needs) returns (λ c. search needs) returns-2 returns-3)
+    tie.close (tie.spec (λ c. search needs) (λ c. search needs) (λ c. search needs) (λ c. search needs)
+    returns (λ c. search needs) returns-2 returns-3)

@@ -9,4 +9,5 @@ unfolding addressOf
 returns c = (simp ((c .before .base-of .ensures .0)), omega arith)
 
 pub address-spec : {M : Type 1} → statement M
-address-spec = tie.close (tie.spec (λ c κs. search needs) (λ c. search needs) (λ c. search needs) returns)
+address-spec =
+    tie.close (tie.spec (λ c κs. search needs) (λ c. search needs) (λ c. search needs) returns)

@@ -8,4 +8,5 @@ returns-2 : tie.Need-returns-2
 returns-2 c = sym (read-past ((c .before .args .mem) .now) (c .before .args .at) (search needs))
 
 pub cell-spec : {M : Type 1} → statement M
-cell-spec = tie.close (tie.spec (λ c. search needs) (λ c. search needs) returns-2)
+cell-spec =
+    tie.close (tie.spec (λ c. search needs) (λ c. search needs) returns-2)

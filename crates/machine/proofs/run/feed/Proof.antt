@@ -69,24 +69,7 @@ returns-3 c = let l = c .before .loop in l .inv .2 ∙ run-end (l .d) (l .mem) (
 
 pub feed-spec : {M : Type 1} → statement M
 feed-spec =
-    tie.close
-    (tie.spec
-    Inv-loop
-    μ-loop
-    loop-holds
-    (λ c. search needs)
-    (λ c. search needs)
-    (λ c. search needs)
-    (λ c κs. search needs)
-    (λ c. search needs)
-    (λ c. search needs)
-    returns
-    (λ c. search needs)
-    (λ c. search needs)
-    (λ c κs. search needs)
-    same-length-2
-    returns-2
-    (λ c. search needs)
-    loop-again
-    (λ c. search needs)
-    returns-3)
+    tie.close (tie.spec Inv-loop μ-loop loop-holds (λ c. search needs) (λ c. search needs) (λ c. search needs)
+    (λ c κs. search needs) (λ c. search needs) (λ c. search needs) returns (λ c. search needs)
+    (λ c. search needs) (λ c κs. search needs) same-length-2 returns-2 (λ c. search needs) loop-again
+    (λ c. search needs) returns-3)

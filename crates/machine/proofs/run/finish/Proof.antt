@@ -13,4 +13,5 @@ unfolding fedOf
 returns-2 c = simp ((c .closed-place .ensures)) (search tests)
 
 pub finish-spec : {M : Type 1} → statement M
-finish-spec = tie.close (tie.spec returns (λ c κs. search needs) returns-2)
+finish-spec =
+    tie.close (tie.spec returns (λ c κs. search needs) returns-2)

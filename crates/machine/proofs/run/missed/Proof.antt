@@ -19,4 +19,5 @@ returns-3 c = search tests
 
 pub missed-spec : {M : Type 1} → statement M
 missed-spec =
-    tie.close (tie.spec (λ c κs. search needs) (λ c κs. search needs) (λ c κs. search needs) (λ c. search needs) returns returns-2 returns-3)
+    tie.close (tie.spec (λ c κs. search needs) (λ c κs. search needs) (λ c κs. search needs)
+    (λ c. search needs) returns returns-2 returns-3)

@@ -6,4 +6,5 @@ returns : tie.Need-returns
 returns c = simp (c .counting .ensures)
 
 pub over-spec : {M : Type 1} → statement M
-over-spec = tie.close (tie.spec (λ c κs. search needs) returns)
+over-spec =
+    tie.close (tie.spec (λ c κs. search needs) returns)

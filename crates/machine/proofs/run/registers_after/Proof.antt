@@ -18,4 +18,5 @@ unfolding registersOf
 returns-3 c = search tests
 
 pub registers-after-spec : {M : Type 1} → statement M
-registers-after-spec = tie.close (tie.spec (λ c κs. search needs) returns returns-2 returns-3)
+registers-after-spec =
+    tie.close (tie.spec (λ c κs. search needs) returns returns-2 returns-3)

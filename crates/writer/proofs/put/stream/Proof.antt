@@ -10,34 +10,6 @@ use Rattle.writer.proofs.Parts.{head-length, stream-parts, parts-length
 use borrow.Author.Needs.{needs}
 use Rattle.writer.proofs.put.stream.Statement.{statement}
 use Rattle.writer.proofs.put.stream.Tie as tie
-use Rattle.writer.proofs.put.stream.Reads as reads
-use Rattle.writer.proofs.put.stream.Lts as lts
-use Rattle.writer.proofs.put.head.Reads as head-reads
-use Rattle.writer.proofs.put.windows.Reads as windows-reads
-
-head-requires : tie.Need-head-requires
-head-requires c κs = search needs
-
-sub-windows : tie.Need-sub-windows
-sub-windows c = search needs
-
-part-windows-start : tie.Need-part-windows-start
-part-windows-start c = search needs
-
-part-windows-end : tie.Need-part-windows-end
-part-windows-end c = search needs
-
-windows-requires : tie.Need-windows-requires
-windows-requires c κs = search needs
-
-add-end : tie.Need-add-end
-add-end c = search needs
-
-slice-write-out : tie.Need-slice-write-out
-slice-write-out c = search needs
-
-add-result : tie.Need-add-result
-add-result c = search needs
 
 same-length : tie.Need-same-length
 same-length c =
@@ -72,15 +44,5 @@ returns c =
 
 pub stream-spec : {M : Type 1} → statement M
 stream-spec =
-    tie.close
-    (tie.spec
-    head-requires
-    sub-windows
-    part-windows-start
-    part-windows-end
-    windows-requires
-    add-end
-    slice-write-out
-    add-result
-    same-length
-    returns)
+    tie.close (tie.spec (λ c κs. search needs) (λ c. search needs) (λ c. search needs) (λ c. search needs)
+    (λ c κs. search needs) (λ c. search needs) (λ c. search needs) (λ c. search needs) same-length returns)

@@ -7,31 +7,6 @@ use Rattle.writer.proofs.Parts.{window-parts}
 use borrow.Author.Needs.{needs}
 use Rattle.writer.proofs.put.window.Statement.{statement}
 use Rattle.writer.proofs.put.window.Tie as tie
-use Rattle.writer.proofs.put.window.Reads as reads
-use Rattle.writer.proofs.put.window.Lts as lts
-use Rattle.cells.proofs.copy.Reads as copy-reads
-use Rattle.writer.proofs.put.framing.Reads as framing-reads
-
-framing-requires : tie.Need-framing-requires
-framing-requires c κs = search needs
-
-sub-copy : tie.Need-sub-copy
-sub-copy c = search needs
-
-part-copy-start : tie.Need-part-copy-start
-part-copy-start c = search needs
-
-part-copy-end : tie.Need-part-copy-end
-part-copy-end c = search needs
-
-copy-requires : tie.Need-copy-requires
-copy-requires c κs = search needs
-
-add-result : tie.Need-add-result
-add-result c = search needs
-
-same-length : tie.Need-same-length
-same-length c = search needs
 
 returns : tie.Need-returns
 returns c =
@@ -46,13 +21,5 @@ returns c =
 
 pub window-spec : {M : Type 1} → statement M
 window-spec =
-    tie.close
-    (tie.spec
-    framing-requires
-    sub-copy
-    part-copy-start
-    part-copy-end
-    copy-requires
-    add-result
-    same-length
-    returns)
+    tie.close (tie.spec (λ c κs. search needs) (λ c. search needs) (λ c. search needs) (λ c. search needs)
+    (λ c κs. search needs) (λ c. search needs) (λ c. search needs) returns)

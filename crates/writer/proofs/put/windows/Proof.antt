@@ -6,10 +6,6 @@ use lib.ListN.{length}
 use Rattle.writer.proofs.Turn.{Inv, room, enough, turn, done}
 use Rattle.writer.proofs.put.windows.Statement.{statement}
 use Rattle.writer.proofs.put.windows.Tie as tie
-use Rattle.writer.proofs.put.windows.Reads as reads
-use Rattle.writer.proofs.put.windows.Lts as lts
-use Rattle.chain.proofs.window.width.Reads as width-reads
-use Rattle.writer.proofs.put.window.Reads as window-reads
 
 abbrev Inv-loop : tie.InvT-loop
 Inv-loop starts ends cells out₀ at₀ from₀ i₀ out at from i = Inv starts ends cells out₀ out at from i
@@ -20,30 +16,6 @@ abbrev μ-loop : tie.MeasureT-loop
 loop-holds : tie.Need-loop-holds Inv-loop μ-loop
 loop-holds c = (search needs, search needs, refl, omega arith, refl)
 
-mul-start : tie.Need-mul-start Inv-loop μ-loop
-mul-start c = search needs
-
-shared-slice-read-start : tie.Need-shared-slice-read-start Inv-loop μ-loop
-shared-slice-read-start c = search needs
-
-mul-end : tie.Need-mul-end Inv-loop μ-loop
-mul-end c = search needs
-
-shared-slice-read-end : tie.Need-shared-slice-read-end Inv-loop μ-loop
-shared-slice-read-end c = search needs
-
-width-requires : tie.Need-width-requires Inv-loop μ-loop
-width-requires c κs = search needs
-
-add-to : tie.Need-add-to Inv-loop μ-loop
-add-to c = search needs
-
-sub-window : tie.Need-sub-window Inv-loop μ-loop
-sub-window c = search needs
-
-part-window-start : tie.Need-part-window-start Inv-loop μ-loop
-part-window-start c = search needs
-
 part-window-end : tie.Need-part-window-end Inv-loop μ-loop
 part-window-end c =
     let l = c .before .before .before .before in
@@ -51,15 +23,6 @@ part-window-end c =
     let s = start .args in
     let k = l .loop in
     enough (s .starts .now) (s .ends .now) (s .cells .now) (s .out .now) (start .pre .0) (start .pre .3) (k .out) (k .at) (k .from) (k .i) (c .width .result) (k .inv) (search needs) (c .width .ensures .0) .0
-
-sub-window-2 : tie.Need-sub-window-2 Inv-loop μ-loop
-sub-window-2 c = search needs
-
-part-window-start-2 : tie.Need-part-window-start-2 Inv-loop μ-loop
-part-window-start-2 c = search needs
-
-part-window-end-2 : tie.Need-part-window-end-2 Inv-loop μ-loop
-part-window-end-2 c = search needs
 
 window-requires : tie.Need-window-requires Inv-loop μ-loop
 window-requires c κs =
@@ -70,15 +33,6 @@ window-requires c κs =
     let k = l .loop in
     let e = enough (s .starts .now) (s .ends .now) (s .cells .now) (s .out .now) (start .pre .0) (start .pre .3) (k .out) (k .at) (k .from) (k .i) (w .width .result) (k .inv) (search needs) (w .width .ensures .0) in
     room (s .cells .now) (k .out) (k .at) (k .from) (w .width .result) (e .0) (e .1)
-
-add-at : tie.Need-add-at Inv-loop μ-loop
-add-at c = search needs
-
-add-i : tie.Need-add-i Inv-loop μ-loop
-add-i c = search needs
-
-loop-less : tie.Need-loop-less Inv-loop μ-loop
-loop-less c = search needs
 
 loop-again : tie.Need-loop-again Inv-loop μ-loop
 loop-again c =
@@ -104,27 +58,7 @@ returns c =
 
 pub windows-spec : {M : Type 1} → statement M
 windows-spec =
-    tie.close
-    (tie.spec
-    Inv-loop
-    μ-loop
-    loop-holds
-    mul-start
-    shared-slice-read-start
-    mul-end
-    shared-slice-read-end
-    width-requires
-    add-to
-    sub-window
-    part-window-start
-    part-window-end
-    sub-window-2
-    part-window-start-2
-    part-window-end-2
-    window-requires
-    add-at
-    add-i
-    loop-less
-    loop-again
-    same-length
-    returns)
+    tie.close (tie.spec Inv-loop μ-loop loop-holds (λ c. search needs) (λ c. search needs) (λ c. search needs)
+    (λ c. search needs) (λ c κs. search needs) (λ c. search needs) (λ c. search needs) (λ c. search needs)
+    part-window-end (λ c. search needs) (λ c. search needs) (λ c. search needs) window-requires
+    (λ c. search needs) (λ c. search needs) (λ c. search needs) loop-again same-length returns)

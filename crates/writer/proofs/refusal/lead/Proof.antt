@@ -3,8 +3,6 @@ use Rattle.chain.proofs.Tests.{tests}
 use Rattle.writer.specs.Stream.{leadIn}
 use Rattle.writer.proofs.refusal.lead.Statement.{statement}
 use Rattle.writer.proofs.refusal.lead.Tie as tie
-use Rattle.writer.proofs.refusal.lead.Reads as reads
-use Rattle.writer.proofs.refusal.lead.Lts as lts
 
 returns : tie.Need-returns
 unfolding leadIn
@@ -19,4 +17,5 @@ unfolding leadIn
 returns-3 c = (simp ((c .before .if1 .left)) (search tests), search needs)
 
 pub lead-spec : {M : Type 1} → statement M
-lead-spec = tie.close (tie.spec returns returns-2 returns-3)
+lead-spec =
+    tie.close (tie.spec returns returns-2 returns-3)

@@ -7,9 +7,6 @@ use Rattle.writer.proofs.Windows.{sum-more, sum-done}
 use borrow.Author.Needs.{needs}
 use Rattle.writer.proofs.refusal.sum.Statement.{statement}
 use Rattle.writer.proofs.refusal.sum.Tie as tie
-use Rattle.writer.proofs.refusal.sum.Reads as reads
-use Rattle.writer.proofs.refusal.sum.Lts as lts
-use Rattle.chain.proofs.window.width.Reads as width-reads
 
 abbrev Inv-loop : tie.InvT-loop
 Inv-loop starts ends total₀ i₀ total i = (i ≤ length starts) × (total ≤ 65536 * i) × (sumOf starts ends ≡ total + sumOf (drop i starts) (drop i ends))
@@ -19,30 +16,6 @@ abbrev μ-loop : tie.MeasureT-loop
 
 loop-holds : tie.Need-loop-holds Inv-loop μ-loop
 loop-holds c = (search needs, search needs, omega arith)
-
-mul-width : tie.Need-mul-width Inv-loop μ-loop
-mul-width c = search needs
-
-shared-slice-read-width : tie.Need-shared-slice-read-width Inv-loop μ-loop
-shared-slice-read-width c = search needs
-
-mul-width-2 : tie.Need-mul-width-2 Inv-loop μ-loop
-mul-width-2 c = search needs
-
-shared-slice-read-width-2 : tie.Need-shared-slice-read-width-2 Inv-loop μ-loop
-shared-slice-read-width-2 c = search needs
-
-width-requires : tie.Need-width-requires Inv-loop μ-loop
-width-requires c κs = search needs
-
-add-total : tie.Need-add-total Inv-loop μ-loop
-add-total c = search needs
-
-add-i : tie.Need-add-i Inv-loop μ-loop
-add-i c = search needs
-
-loop-less : tie.Need-loop-less Inv-loop μ-loop
-loop-less c = search needs
 
 loop-again : tie.Need-loop-again Inv-loop μ-loop
 loop-again c = let m = sum-more ((c .before .before .before .before .before .before .before .args .starts) .now) ((c .before .before .before .before .before .before .before .args .ends) .now) (c .before .before .before .before .loop .i) (search needs) (search needs) in
@@ -54,18 +27,6 @@ returns c = let z = sum-done ((c .before .before .before .before .args .starts) 
 
 pub sum-spec : {M : Type 1} → statement M
 sum-spec =
-    tie.close
-    (tie.spec
-    Inv-loop
-    μ-loop
-    loop-holds
-    mul-width
-    shared-slice-read-width
-    mul-width-2
-    shared-slice-read-width-2
-    width-requires
-    add-total
-    add-i
-    loop-less
-    loop-again
-    returns)
+    tie.close (tie.spec Inv-loop μ-loop loop-holds (λ c. search needs) (λ c. search needs) (λ c. search needs)
+    (λ c. search needs) (λ c κs. search needs) (λ c. search needs) (λ c. search needs) (λ c. search needs)
+    loop-again returns)

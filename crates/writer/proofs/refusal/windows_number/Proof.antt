@@ -6,8 +6,6 @@ use Rattle.writer.proofs.Windows.{number-more, number-done}
 use borrow.Author.Needs.{needs}
 use Rattle.writer.proofs.refusal.windows_number.Statement.{statement}
 use Rattle.writer.proofs.refusal.windows_number.Tie as tie
-use Rattle.writer.proofs.refusal.windows_number.Reads as reads
-use Rattle.writer.proofs.refusal.windows_number.Lts as lts
 
 abbrev Inv-loop : tie.InvT-loop
 Inv-loop size starts ends i₀ i = (i ≤ length starts) × (windowsNumber size starts ends ≡ windowsNumber size (drop i starts) (drop i ends))
@@ -15,32 +13,11 @@ Inv-loop size starts ends i₀ i = (i ≤ length starts) × (windowsNumber size 
 abbrev μ-loop : tie.MeasureT-loop
 μ-loop size starts ends i₀ i = length starts - i
 
-loop-holds : tie.Need-loop-holds Inv-loop μ-loop
-loop-holds c = search needs
-
-mul-start : tie.Need-mul-start Inv-loop μ-loop
-mul-start c = search needs
-
-shared-slice-read-start : tie.Need-shared-slice-read-start Inv-loop μ-loop
-shared-slice-read-start c = search needs
-
-mul-end : tie.Need-mul-end Inv-loop μ-loop
-mul-end c = search needs
-
-shared-slice-read-end : tie.Need-shared-slice-read-end Inv-loop μ-loop
-shared-slice-read-end c = search needs
-
 returns : tie.Need-returns Inv-loop μ-loop
 returns c = sym ((c .before .before .before .before .loop .inv .1) ∙ number-more ((c .before .before .before .before .before .args .starts) .now) ((c .before .before .before .before .before .args .ends) .now) (c .before .before .before .before .loop .i) (search needs) (search needs) (c .before .before .before .before .before .args .size) ∙ simp ((c .if1 .taken)))
 
 returns-2 : tie.Need-returns-2 Inv-loop μ-loop
 returns-2 c = sym ((c .before .before .before .before .before .loop .inv .1) ∙ number-more ((c .before .before .before .before .before .before .args .starts) .now) ((c .before .before .before .before .before .before .args .ends) .now) (c .before .before .before .before .before .loop .i) (search needs) (search needs) (c .before .before .before .before .before .before .args .size) ∙ simp ((c .before .if1 .left), (c .if2 .taken)))
-
-add-i : tie.Need-add-i Inv-loop μ-loop
-add-i c = search needs
-
-loop-less : tie.Need-loop-less Inv-loop μ-loop
-loop-less c = search needs
 
 loop-again : tie.Need-loop-again Inv-loop μ-loop
 loop-again c = (search needs, (c .before .before .before .before .before .loop .inv .1) ∙ number-more ((c .before .before .before .before .before .before .args .starts) .now) ((c .before .before .before .before .before .before .args .ends) .now) (c .before .before .before .before .before .loop .i) (search needs) (search needs) (c .before .before .before .before .before .before .args .size) ∙ simp ((c .before .if1 .left), (c .if2 .left)))
@@ -50,18 +27,6 @@ returns-3 c = sym ((c .before .loop .inv .1) ∙ number-done (c .before .before 
 
 pub windows-number-spec : {M : Type 1} → statement M
 windows-number-spec =
-    tie.close
-    (tie.spec
-    Inv-loop
-    μ-loop
-    loop-holds
-    mul-start
-    shared-slice-read-start
-    mul-end
-    shared-slice-read-end
-    returns
-    returns-2
-    add-i
-    loop-less
-    loop-again
-    returns-3)
+    tie.close (tie.spec Inv-loop μ-loop (λ c. search needs) (λ c. search needs) (λ c. search needs)
+    (λ c. search needs) (λ c. search needs) returns returns-2 (λ c. search needs) (λ c. search needs)
+    loop-again returns-3)
