@@ -15,6 +15,7 @@ demo: lib
 
 test: lib
 	python3 tests/docs/cited.py
+	python3 tests/docs/count.py
 	sh tests/header/run.sh
 	sh examples/run.sh $(archive) | diff examples/controller.out -
 	sh tests/compare/run.sh $(archive)
