@@ -9,25 +9,16 @@ const KINDS: [u8; 5] = [0, 2, 3, 5, 10];
 
 const SIZES: [u16; 5] = [52, 2665, 4141, 8065, 16381];
 
-// The size of a kind, 0 for an unknown one. The entries are tested one by one: in a loop the compiler would lay out both tables anew
-// at each look, and every call on a state asks for sizes.
+// The size of a kind, 0 for an unknown one.
 pub fn size_of(kind: u8) -> u16
     ensures { λ r. ⌜ r ≡ sizeOf kind ⌝ }
 {
-    if KINDS[0] == kind {
-        return SIZES[0];
-    }
-    if KINDS[1] == kind {
-        return SIZES[1];
-    }
-    if KINDS[2] == kind {
-        return SIZES[2];
-    }
-    if KINDS[3] == kind {
-        return SIZES[3];
-    }
-    if KINDS[4] == kind {
-        return SIZES[4];
+    let mut i: usize = 0;
+    while i < 5 {
+        if KINDS[i] == kind {
+            return SIZES[i];
+        }
+        i += 1;
     }
     0
 }
