@@ -1,62 +1,45 @@
--- The eager loader, which stores a whole window at its first data byte and idles through the rest: a stream that it loads whole, and
--- rightly, is shut out by the stop. Assumes nothing.
+-- Loaders that the stop in demand 3 shuts out: any whose memory is the same after two front parts that leave a cell different, and so the
+-- eager loader, which stores a whole window at its first data byte and idles through the rest, however it makes up the bytes it was not
+-- given. Assumes nothing.
 use Prim.Native.Nat.{ℕ, _<_}
-use mathlib.Core.Path.{_≡_, refl}
+use mathlib.Core.Path.{_≡_, refl, ap, sym, _∙_}
 use mathlib.Core.List.{List, [], _∷_}
 use native.Mathlib.Omega.{arith}
 use lib.Dec.{lit<}
-use lib.ListN.{take}
+use lib.ListN.{length, getD, take}
+use Rattle.chain.specs.declared.Chain.{Chain}
 use Rattle.chain.specs.Kinds.{sizeOf, baseOf, knownOf}
 use Rattle.chain.specs.State.{badChain, unusedZero, wellFormed, illFormed, stateNumber, feedNumber}
 use Rattle.machine.specs.Byte.{numberOf, passedOf, advanceOf}
 use Rattle.machine.specs.Run.{addressOf, memoryOf, registersOf, missedOf, stepOf, runOf}
 use Rattle.machine.specs.Calls.{startNumber, startOf, fedOf, sliceOf, sliceMemory}
-use Rattle.demands.specs.Grammar.{Section, Bytes}
-use Rattle.demands.specs.Demand3.{Reading, Whole, load, Demand3}
-use Rattle.demands.specs.Ours.{ours}
+use Rattle.demands.specs.Grammar.{memory, lastTo, Bytes}
+use Rattle.demands.specs.Loader.{Loader, Idle, Mode}
+use Rattle.demands.specs.Demand2.{Reading, meant}
+use Rattle.demands.specs.Demand3.{Clear, Whole, load, Demand3}
 use Rattle.demands.specs.Wrong.{eager}
-use Rattle.demands.proofs.StreamA.{teaching, cells0, idle-teaching, mode-one}
+use Rattle.demands.proofs.StreamA.{teaching, cells0, idle-teaching, mode-one, streamA, small-A, reading-A}
 
--- a window of equal bytes: what the eager loader makes up is what comes
-abbrev sectionB : Section
-sectionB =
-    record {
-      control = 0;
-      address0 = 0;
-      address1 = 0;
-      address2 = 0;
-      windows = record { null = 0; start = 9; end = 11; bytes = 0x11 ∷ 0x11 ∷ 0x11 ∷ [] } ∷ [];
-    }
+-- any loader: what stands in a cell after j bytes and after k bytes of some stream is to differ, and does not
+pub idling-out : (l : Loader) → Demand3 l → (c : Chain) (m : List ℕ) (mode : ℕ) (bs : List ℕ) → Idle c m → Mode mode → Bytes bs → Whole l mode bs c m
+    → (x : Reading c mode bs) → Clear (x .first) (x .others) → (j k i : ℕ) → j < length bs → k < length bs → i < length m
+    → (lastTo memory (take j (meant x)) i (getD m i 0) ≡ lastTo memory (take k (meant x)) i (getD m i 0) → ⊥)
+    → load l mode c m (take j bs) .memory ≡ load l mode c m (take k bs) .memory → ⊥
+idling-out l d c m mode bs i o u w x clear j k n a b h differ same =
+    let s = d c m mode bs i o u w .stops x clear in
+    differ
+    (sym (s j a [] (take j bs) refl .seen .cells n h) ∙ ap (λ (y : List ℕ). getD y n 0) same ∙ s k b [] (take k bs) refl .seen .cells n h)
 
-abbrev streamB : List ℕ
-streamB = 0xb2 ∷ 0 ∷ 0 ∷ 0 ∷ 0 ∷ 0xfe ∷ 0 ∷ 0 ∷ 9 ∷ 0 ∷ 11 ∷ 0x11 ∷ 0x11 ∷ 0x11 ∷ 0x4d ∷ []
-
-reading : Reading teaching 1 streamB
-unfolding sizeOf
-reading =
-    record {
-      first = sectionB;
-      others = [];
-      fits = (omega arith, record { few = omega arith; fit = (record { order = omega arith; inside = omega arith; full = refl }, tt) });
-      bytes = unfold baseOf in refl;
-    }
-
-small : Bytes streamB
-small = (lit< tt, (lit< tt, (lit< tt, (lit< tt, (lit< tt, (lit< tt, (lit< tt, (lit< tt, (lit< tt, (lit< tt, (lit< tt, (lit< tt, (lit< tt, (lit< tt, (lit< tt, tt)))))))))))))))
-
--- it loads whole
-pub eager-whole : Whole eager 1 streamB teaching cells0
+-- it loads stream A whole
+pub eager-whole : (f : Chain → List ℕ → ℕ → List ℕ) → Whole (eager f) 1 streamA teaching cells0
 unfolding sizeOf baseOf knownOf badChain unusedZero wellFormed illFormed stateNumber feedNumber numberOf passedOf advanceOf addressOf memoryOf registersOf missedOf stepOf runOf startNumber startOf fedOf sliceOf sliceMemory
-eager-whole = record { started = refl; number = refl; taken = refl }
+eager-whole f = record { started = refl; number = refl; taken = refl }
 
--- and its memory is then that of ours: it is the stop that shuts it out
-pub eager-right : load eager 1 teaching cells0 streamB .memory ≡ load ours 1 teaching cells0 streamB .memory
+-- and is out between the first data byte and the second
+pub eager-out : (f : Chain → List ℕ → ℕ → List ℕ) → Demand3 (eager f) → ⊥
 unfolding sizeOf baseOf knownOf badChain unusedZero wellFormed illFormed stateNumber feedNumber numberOf passedOf advanceOf addressOf memoryOf registersOf missedOf stepOf runOf startNumber startOf fedOf sliceOf sliceMemory
-eager-right = refl
-
-pub eager-out : Demand3 eager → ⊥
-unfolding reading sizeOf baseOf knownOf badChain unusedZero wellFormed illFormed stateNumber feedNumber numberOf passedOf advanceOf addressOf memoryOf registersOf missedOf stepOf runOf startNumber startOf fedOf sliceOf sliceMemory
-eager-out d =
-    let h = d teaching cells0 1 streamB idle-teaching mode-one small eager-whole in
-    let e : _≡_ {A = ℕ} 0x11 0 = h .stops reading refl 12 (omega arith) [] (take 12 streamB) refl .cells 10 (omega arith) in
-    omega arith
+eager-out f d =
+    idling-out (eager f) d teaching cells0 1 streamA idle-teaching mode-one small-A (eager-whole f) reading-A refl 12 13 10 (lit< tt) (lit< tt) (lit< tt) no refl
+  where
+    no : _≡_ {A = ℕ} 0 0x22 → ⊥
+    no q = omega arith

@@ -20,7 +20,7 @@ use Rattle.lister.specs.Listing.{preambleAt, countAt, headStop, checkStop, stre
 use Rattle.lister.proofs.Windows.{whole, read-whole}
 use Rattle.demands.specs.Grammar.{Window, Section, streamSent, bytesOf, Fits, AllFit, SectionFits}
 use Rattle.demands.specs.Loader.{AfterList, Mode}
-use Rattle.demands.specs.Files.{starts, ends, cells, offsets, gathered, Lists}
+use Rattle.demands.specs.Files.{starts, ends, cells, offsets, gathered, ListsAs}
 use Rattle.demands.specs.Ours.{ours}
 use Rattle.demands.proofs.SectionBytes.{windowBytes, windowsBytes, sectionBytes, leadBytes, stream-bytes, starts-many, ends-many, offsets-many}
 
@@ -254,14 +254,13 @@ module _ (kind mode p : ℕ) (s : List ℕ) (x : Section) (t : ℕ) (pa : preamb
         }
     list-is = rw (answer-is, listing-is, k .windows .starts-are, k .windows .ends-are, pa, offsets-are)
 
-    stood-lists : Lists mode s t x (ours .list kind mode s ts te to)
-    unfolding preambleAt
+    stood-lists : ListsAs mode s t x (ours .list kind mode s ts te to)
     stood-lists =
         let n = length (x .windows) in
         let sa : take n (sets ts 0 (starts (x .windows))) ≡ starts (x .windows) = table-front (starts (x .windows)) ts n (starts-many (x .windows)) a in
         let ea : take n (sets te 0 (ends (x .windows))) ≡ ends (x .windows) = table-front (ends (x .windows)) te n (ends-many (x .windows)) b in
         let oa : take n (sets to 0 (offsets 6 (x .windows))) ≡ offsets 6 (x .windows) = table-front (offsets 6 (x .windows)) to n (offsets-many 6 (x .windows)) d in
-        subst (λ (r : AfterList). Lists mode s t x r) (sym list-is)
+        subst (λ (r : AfterList). ListsAs mode s t x r) (sym list-is)
         (record {
           number = refl;
           taken = refl;
@@ -288,7 +287,7 @@ module _ (kind mode : ℕ) (c : Chain) (x : Section) (rest : List ℕ) (f : Sect
 
   -- whatever tables of room enough are lent, and whatever follows the stream
   pub listed : (ts te to : List ℕ) → length (x .windows) ≤ length ts → length (x .windows) ≤ length te → length (x .windows) ≤ length to
-      → Lists mode (bytesOf (streamSent c mode x []) ++ rest) (length (bytesOf (streamSent c mode x []))) x
+      → ListsAs mode (bytesOf (streamSent c mode x []) ++ rest) (length (bytesOf (streamSent c mode x []))) x
       (ours .list kind mode (bytesOf (streamSent c mode x []) ++ rest) ts te to)
   listed ts te to a b d =
       let t : ℕ = length (bytesOf (streamSent c mode x [])) in

@@ -6,7 +6,7 @@ use Rattle.chain.specs.declared.Chain.{Chain}
 use Rattle.chain.specs.Set.{with·place}
 use Rattle.machine.specs.Calls.{openedPlace}
 use Rattle.demands.specs.Grammar.{Bytes}
-use Rattle.demands.specs.Demand3.{Reading, meant}
+use Rattle.demands.specs.Demand2.{Reading, meant}
 use Rattle.demands.proofs.Along.{sentOf}
 use Rattle.demands.proofs.Accepted.{Accepted}
 use Rattle.demands.proofs.Parse.{parse, parsed-bytes}

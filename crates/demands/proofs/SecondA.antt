@@ -28,6 +28,7 @@ use Rattle.demands.specs.Loader.{AfterSlice, Idle, Mode}
 use Rattle.demands.specs.Demand2.{Fitting, Seen, slices, joined, Demand2a}
 use Rattle.demands.specs.Ours.{ours}
 use Rattle.demands.proofs.Along.{sentOf, sent-take}
+use Rattle.demands.proofs.Cuts.{bytes-front, open-front, slices-join, front-open}
 use Rattle.demands.proofs.Accepted.{Accepted, accepted-done, accepted-open}
 use Rattle.demands.proofs.Forward.{stream-accepted}
 use Rattle.demands.proofs.Meant.{walk-meant}
@@ -35,74 +36,6 @@ use Rattle.demands.proofs.Opened.{state-sound, count-sound, opened-soun
 use Rattle.demands.proofs.Seen.{seen}
 use Rattle.demands.proofs.Short.{stream-short, bytes-long}
 use Rattle.demands.proofs.Stop.{bytes-take}
-
--- ---- slices one after another are one slice
-
-pub bytes-front : (xs ys : List ℕ) → Bytes (xs ++ ys) → Bytes xs
-bytes-front [] ys h = tt
-bytes-front (x ∷ xs) ys h = (h .0, bytes-front xs ys (h .1))
-
-bytes-back : (xs ys : List ℕ) → Bytes (xs ++ ys) → Bytes ys
-bytes-back [] ys h = h
-bytes-back (x ∷ xs) ys h = bytes-back xs ys (h .1)
-
--- a run that is open after a and b was open after a
-pub open-front : (a b : List ℕ) (r : Run) → runOf r (a ++ b) .number ≡ more → runOf r a .number ≡ more
-open-front a b r h =
-    by-test (eqb (runOf r a .number) more) (λ e. eqb-true (runOf r a .number) more e)
-    (λ e.
-    absurd
-    (eqb-false (runOf r a .number) more e
-    (sym (ap (λ (x : Run). x .number) (run-append a b r ∙ run-over b (runOf r a) (eqb-false (runOf r a .number) more e))) ∙ h)))
-
--- the slice a of an open run that stays open
-record Went (c : Chain) (m a : List ℕ) (d : Chain) (n : List ℕ) : Type 0 where
-  number : sliceOf c m a .answer .number ≡ more
-  chain : sliceOf c m a .chain ≡ d
-  memory : sliceMemory c m a ≡ n
-  open-again : feedNumber d (length n) ≡ done
-  eight : length (d .registers) ≡ most-devices
-
-went : (c : Chain) (m a : List ℕ) → feedNumber c (length m) ≡ done → length (c .registers) ≡ most-devices → Bytes a
-    → runOf (run c m more) a .number ≡ more → Went c m a (runOf (run c m more) a .chain) (runOf (run c m more) a .memory)
-went c m a o e b h =
-    let r = slice-runs c m a o in
-    record {
-      number = ap (λ (f : Fed). f .answer .number) (r .0) ∙ fed-number (runOf (run c m more) a) ∙ h;
-      chain = ap (λ (f : Fed). f .chain) (r .0) ∙ fed-more (runOf (run c m more) a) h;
-      memory = r .1;
-      open-again = run-open c m a b e o h;
-      eight = run-lasts a (run c m more) .registers ∙ e;
-    }
-
--- where the run is open before the last of them
-pub slices-join : (ps : List (List ℕ)) (c : Chain) (m last : List ℕ) → feedNumber c (length m) ≡ done → length (c .registers) ≡ most-devices
-    → Bytes (joined ps) → runOf (run c m more) (joined ps) .number ≡ more → slices ours c m ps last ≡ ours .slice c m (joined ps ++ last)
-slices-join [] c m last o e b h = refl
-slices-join (p ∷ ps) c m last o e b h =
-    let r = runOf (run c m more) p in
-    let f = open-front p (joined ps) (run c m more) h in
-    let w = went c m p o e (bytes-front p (joined ps) b) f in
-    let k : runOf (run (r .chain) (r .memory) more) (joined ps) .number ≡ more =
-    ap (λ (n : ℕ). runOf (run (r .chain) (r .memory) n) (joined ps) .number) (sym f)
-    ∙ sym (ap (λ (x : Run). x .number) (run-append p (joined ps) (run c m more))) ∙ h
-    in
-    let j = slices-join ps (r .chain) (r .memory) last (w .open-again) (w .eight) (bytes-back p (joined ps) b) k in
-    let a = slice-more c m p (joined ps ++ last) (bytes-front p (joined ps) b) e (w .number) in
-    let x : slices ours (sliceOf c m p .chain) (sliceMemory c m p) ps last ≡ ours .slice (r .chain) (r .memory) (joined ps ++ last) =
-    rw (w .chain, w .memory) j
-    in
-    let y : ours .slice c m (p ++ (joined ps ++ last)) ≡ ours .slice (r .chain) (r .memory) (joined ps ++ last) =
-    pair (subst (λ (d : Chain). sliceOf c m (p ++ (joined ps ++ last)) ≡ sliceOf d (r .memory) (joined ps ++ last)) (w .chain)
-    (subst (λ (n : List ℕ). sliceOf c m (p ++ (joined ps ++ last)) ≡ sliceOf (sliceOf c m p .chain) n (joined ps ++ last)) (w .memory) (a .0)))
-    (subst (λ (d : Chain). sliceMemory c m (p ++ (joined ps ++ last)) ≡ sliceMemory d (r .memory) (joined ps ++ last)) (w .chain)
-    (subst (λ (n : List ℕ). sliceMemory c m (p ++ (joined ps ++ last)) ≡ sliceMemory (sliceOf c m p .chain) n (joined ps ++ last)) (w .memory) (a .1)))
-    in
-    x ∙ sym y ∙ ap (λ (s : List ℕ). ours .slice c m s) (sym (append-assoc p (joined ps) last))
-  where
-    pair : {f g : Fed} {x y : List ℕ} → f ≡ g → x ≡ y
-        → _≡_ {A = AfterSlice} (record { fed = f; memory = x }) (record { fed = g; memory = y })
-    pair u v = rw (u, v)
 
 -- ---- a fitting stream
 
@@ -165,12 +98,7 @@ module _ (c : Chain) (m : List ℕ) (check mode : ℕ) (s : Section) (ss : List 
   cut-whole : (ps : List (List ℕ)) (b : ℕ) (last rest : List ℕ) → joined ps ++ (b ∷ last) ≡ bs
       → Seen check c m xs done (slices ours o m ps ((b ∷ last) ++ rest))
   cut-whole ps b last rest e =
-      let n = length (joined ps) in
-      let t : take n bs ≡ joined ps = ap (take n) (sym e) ∙ take-append-seam (joined ps) (b ∷ last) in
-      let l : n < length bs = omega (arith, ap length e, length-append (joined ps) (b ∷ last)) in
-      let open-before : runOf (run o m more) (joined ps) .number ≡ more =
-      ap (λ (l : List ℕ). runOf (run o m more) l .number) (sym t) ∙ accepted-open n bs o m accepted l
-      in
+      let open-before = front-open o m bs (joined ps) b last e (λ k l. accepted-open k bs o m accepted l) in
       let small = bytes-front (joined ps) (b ∷ last) (subst Bytes (sym e) (f .bytes)) in
       let all : joined ps ++ ((b ∷ last) ++ rest) ≡ bs ++ rest = sym (append-assoc (joined ps) (b ∷ last) rest) ∙ ap (λ (l : List ℕ). l ++ rest) e in
       let j = slices-join ps o m ((b ∷ last) ++ rest) sound (i .registers) small open-before ∙ ap (λ (l : List ℕ). ours .slice o m l) all in

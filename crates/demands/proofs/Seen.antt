@@ -29,7 +29,7 @@ use Rattle.demands.proofs.Counts.{taken-sent, check-counts, write-count
 -- ---- what a caller sees of a run
 
 -- a run that is over leaves no place, and its registers
-fed-registers : (r : Run) → fedOf r .chain .registers ≡ r .chain .registers
+pub fed-registers : (r : Run) → fedOf r .chain .registers ≡ r .chain .registers
 unfolding fedOf
 fed-registers r = by-test (eqb (r .number) more) (λ e. rw e refl) (λ e. rw e refl)
 
@@ -99,12 +99,12 @@ module _ (check mode : ℕ) (c : Chain) (m bs : List ℕ) where
         ∙ sym (ap (λ (q : Bool). pick q 0 (unlikes m xs)) e))
 
 -- an answer's chain has the run's devices, whether its place was closed or not
-fed-count : (r : Run) → fedOf r .chain .count ≡ r .chain .count
+pub fed-count : (r : Run) → fedOf r .chain .count ≡ r .chain .count
 fed-count r =
     by-test (eqb (r .number) more) (λ q. ap (λ (d : Chain). d .count) (fed-more r (eqb-true (r .number) more q)))
     (λ q. ap (λ (d : Chain). d .count) (fed-over r (eqb-false (r .number) more q)))
 
-fed-kinds : (r : Run) → fedOf r .chain .kinds ≡ r .chain .kinds
+pub fed-kinds : (r : Run) → fedOf r .chain .kinds ≡ r .chain .kinds
 fed-kinds r =
     by-test (eqb (r .number) more) (λ q. ap (λ (d : Chain). d .kinds) (fed-more r (eqb-true (r .number) more q)))
     (λ q. ap (λ (d : Chain). d .kinds) (fed-over r (eqb-false (r .number) more q)))

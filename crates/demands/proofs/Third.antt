@@ -1,10 +1,9 @@
--- The third demand, met by our loader from what Given has: every stop, its closing bytes, and the same stream started afresh. Assumes nothing.
+-- Every stop of a stream that loads whole, its closing bytes, and the same stream started afresh. Assumes nothing.
 use Prim.Native.Nat.{ℕ, _<_, _≤_}
 use mathlib.Core.Path.{_≡_, refl, ap, sym, subst, _∙_}
 use mathlib.Core.List.{List}
 use native.Mathlib.Omega.{arith}
-use lib.ListN.{length, take}
-use lib.Seq.{length-take-le}
+use lib.ListN.{length, take, length-take}
 use borrow.Author.Tests.{ne-eqb}
 use Rattle.chain.specs.declared.Chain.{Chain}
 use Rattle.chain.specs.declared.Made.{Made}
@@ -12,17 +11,24 @@ use Rattle.chain.specs.Paper.{closed, writing, done, more}
 use Rattle.chain.specs.Set.{with·place, closedPlace}
 use Rattle.chain.specs.State.{stateNumber, feedNumber}
 use Rattle.machine.specs.Run.{Run, run, runOf}
+use Rattle.machine.proofs.Keeps.{run-open}
+use Rattle.closing.specs.Closing.{closingBytes}
 use Rattle.machine.specs.Calls.{openedPlace, answered, fedOf, sliceOf, sliceMemory}
 use Rattle.demands.specs.Grammar.{Sent, bytesOf, Bytes}
 use Rattle.demands.specs.Loader.{AfterSlice, Idle, Mode}
-use Rattle.demands.specs.Demand3.{Reading, meant, Clear, load, Whole, offered, Closes, Stopped}
-use Rattle.demands.proofs.Along.{sentOf}
+use Rattle.demands.specs.Demand2.{Seen, Reading, meant}
+use Rattle.demands.specs.Demand3.{Clear, load, Whole, Shut, Closes, Stopped}
+use Rattle.demands.specs.Ours.{ours}
+use Rattle.demands.proofs.Along.{sentOf, sent-take}
 use Rattle.demands.proofs.Accepted.{Accepted, accepted-done, accepted-open, accepted-bytes, accepted-taken}
 use Rattle.demands.proofs.Free.{unbarred-stream}
 use Rattle.demands.proofs.Restart.{Restarted, restart}
 use Rattle.demands.proofs.Opened.{state-sound, open-sound, closed-sound, count-sound, opened-sound, start-done}
-use Rattle.demands.proofs.Given.{Closing, ours, Open, Shuts, Given}
-use Rattle.demands.proofs.Parse.{Parsed}
+use Rattle.demands.proofs.ClosingCuts.{Open, Shuts, offers, shuts, room, closing-cut, closing-part, closing-some}
+use Rattle.demands.proofs.Parse.{Parsed, parse}
+use Rattle.demands.proofs.Plain.{one-reading}
+use Rattle.demands.proofs.Seen.{seen}
+use Rattle.demands.proofs.Short.{stream-short}
 use Rattle.demands.proofs.Stop.{run-count, run-kinds, bytes-take, length-bytes, Left, left}
 
 -- ---- what a slice answers, by whether its run is over
@@ -39,17 +45,17 @@ over r =
       memory = r .memory;
     }
 
-module _ (closing : Closing) (s : Chain) (m bs : List ℕ) (h : feedNumber s (length m) ≡ done) where
-  slice-going : runOf (run s m more) bs .number ≡ more → ours closing .slice s m bs ≡ going (runOf (run s m more) bs)
+module _ (s : Chain) (m bs : List ℕ) (h : feedNumber s (length m) ≡ done) where
+  slice-going : runOf (run s m more) bs .number ≡ more → ours .slice s m bs ≡ going (runOf (run s m more) bs)
   unfolding sliceOf sliceMemory fedOf
   slice-going e = rw (h, e)
 
-  slice-over : (runOf (run s m more) bs .number ≡ more → ⊥) → ours closing .slice s m bs ≡ over (runOf (run s m more) bs)
+  slice-over : (runOf (run s m more) bs .number ≡ more → ⊥) → ours .slice s m bs ≡ over (runOf (run s m more) bs)
   unfolding sliceOf sliceMemory fedOf
   slice-over e = rw (h, ne-eqb (runOf (run s m more) bs .number) more e)
 
   -- closing bytes leave the chain that was stopped, with no run open
-  slice-shut : Shuts s m bs → ours closing .slice s m bs
+  slice-shut : Shuts s m bs → ours .slice s m bs
       ≡ record {
         fed = answered (with·place s closedPlace) (runOf (run s m more) bs .number) (runOf (run s m more) bs .chain .place .taken)
             (runOf (run s m more) bs .chain .place .mismatches);
@@ -57,11 +63,11 @@ module _ (closing : Closing) (s : Chain) (m bs : List ℕ) (h : feedNumber s (le
       }
   slice-shut x = slice-over (x .ends) ∙ rw (run-count bs (run s m more), run-kinds bs (run s m more), x .cells, x .regs)
 
-  slice-number : ours closing .slice s m bs .fed .answer .number ≡ runOf (run s m more) bs .number
+  slice-number : ours .slice s m bs .fed .answer .number ≡ runOf (run s m more) bs .number
   unfolding sliceOf fedOf
   slice-number = rw h
 
-  slice-taken : ours closing .slice s m bs .fed .answer .taken ≡ runOf (run s m more) bs .chain .place .taken
+  slice-taken : ours .slice s m bs .fed .answer .taken ≡ runOf (run s m more) bs .chain .place .taken
   unfolding sliceOf fedOf
   slice-taken = rw h
 
@@ -69,54 +75,54 @@ module _ (closing : Closing) (s : Chain) (m bs : List ℕ) (h : feedNumber s (le
 abbrev begun : Chain → ℕ → Chain
 begun c mode = with·place c (openedPlace mode writing)
 
-module _ (closing : Closing) (c : Chain) (m : List ℕ) (mode : ℕ) (h : stateNumber c (length m) ≡ done) (z : c .place .running ≡ closed) (k : Mode mode) where
-  starts : ours closing .start c m mode writing ≡ record { chain = begun c mode; number = done }
+module _ (c : Chain) (m : List ℕ) (mode : ℕ) (h : stateNumber c (length m) ≡ done) (z : c .place .running ≡ closed) (k : Mode mode) where
+  starts : ours .start c m mode writing ≡ record { chain = begun c mode; number = done }
   starts = start-done c (length m) mode writing h z k
 
-  load-is : (bs : List ℕ) → load (ours closing) mode c m bs ≡ ours closing .slice (begun c mode) m bs
-  load-is bs = ap (λ (x : Made). ours closing .slice (x .chain) m bs) starts
+  load-is : (bs : List ℕ) → load ours mode c m bs ≡ ours .slice (begun c mode) m bs
+  load-is bs = ap (λ (x : Made). ours .slice (x .chain) m bs) starts
 
   begun-sound : feedNumber (begun c mode) (length m) ≡ done
   begun-sound = opened-sound c (length m) mode writing h k
 
   -- a stream that is accepted, over any chain with no run open
   load-whole : (bs : List ℕ) → Accepted (begun c mode) bs → runOf (run (begun c mode) m more) bs .chain .place .taken ≡ length bs
-      → Whole (ours closing) mode bs c m
+      → Whole ours mode bs c m
   load-whole bs a t =
       record {
         started = ap (λ (x : Made). x .number) starts;
-        number = ap (λ (x : AfterSlice). x .fed .answer .number) (load-is bs) ∙ slice-number closing (begun c mode) m bs begun-sound ∙ accepted-done bs (begun c mode) m a;
-        taken = ap (λ (x : AfterSlice). x .fed .answer .taken) (load-is bs) ∙ slice-taken closing (begun c mode) m bs begun-sound ∙ t;
+        number = ap (λ (x : AfterSlice). x .fed .answer .number) (load-is bs) ∙ slice-number (begun c mode) m bs begun-sound ∙ accepted-done bs (begun c mode) m a;
+        taken = ap (λ (x : AfterSlice). x .fed .answer .taken) (load-is bs) ∙ slice-taken (begun c mode) m bs begun-sound ∙ t;
       }
 
-  load-accepted : (bs : List ℕ) → Accepted (begun c mode) bs → load (ours closing) mode c m bs ≡ over (runOf (run (begun c mode) m more) bs)
-  load-accepted bs a = load-is bs ∙ slice-over closing (begun c mode) m bs begun-sound (λ q. differ (sym (accepted-done bs (begun c mode) m a) ∙ q))
+  load-accepted : (bs : List ℕ) → Accepted (begun c mode) bs → load ours mode c m bs ≡ over (runOf (run (begun c mode) m more) bs)
+  load-accepted bs a = load-is bs ∙ slice-over (begun c mode) m bs begun-sound (λ q. differ (sym (accepted-done bs (begun c mode) m a) ∙ q))
     where
       differ : _≡_ {A = ℕ} done more → ⊥
       differ q = omega arith
 
 -- ---- the demand
 
-module _ (closing : Closing) (given : Given closing) (c : Chain) (m : List ℕ) (mode : ℕ) (bs : List ℕ)
-    (idle : Idle c m) (k : Mode mode) (small : Bytes bs) (w : Whole (ours closing) mode bs c m) where
+module _ (c : Chain) (m : List ℕ) (mode : ℕ) (bs : List ℕ)
+    (idle : Idle c m) (k : Mode mode) (small : Bytes bs) (w : Whole ours mode bs c m) where
   o-sound : feedNumber (begun c mode) (length m) ≡ done
-  o-sound = begun-sound closing c m mode (idle .sound) (idle .closed-place) k
+  o-sound = begun-sound c m mode (idle .sound) (idle .closed-place) k
 
   all-taken : runOf (run (begun c mode) m more) bs .chain .place .taken ≡ length bs
   all-taken =
-      sym (ap (λ (x : AfterSlice). x .fed .answer .taken) (load-is closing c m mode (idle .sound) (idle .closed-place) k bs)
-      ∙ slice-taken closing (begun c mode) m bs o-sound) ∙ w .taken
+      sym (ap (λ (x : AfterSlice). x .fed .answer .taken) (load-is c m mode (idle .sound) (idle .closed-place) k bs)
+      ∙ slice-taken (begun c mode) m bs o-sound) ∙ w .taken
 
   accepted : Accepted (begun c mode) bs
   accepted =
       accepted-taken bs (begun c mode) m refl
-      (sym (ap (λ (x : AfterSlice). x .fed .answer .number) (load-is closing c m mode (idle .sound) (idle .closed-place) k bs)
-      ∙ slice-number closing (begun c mode) m bs o-sound) ∙ w .number)
+      (sym (ap (λ (x : AfterSlice). x .fed .answer .number) (load-is c m mode (idle .sound) (idle .closed-place) k bs)
+      ∙ slice-number (begun c mode) m bs o-sound) ∙ w .number)
       all-taken
 
   parsed : Parsed c mode writing bs
   parsed = let n = count-sound c (length m) (state-sound c (length m) (idle .sound)) in
-      given .parse c mode writing bs (n .0) (n .1) small accepted
+      parse c mode writing bs (n .0) (n .1) small accepted
 
   reading : Reading c mode bs
   reading =
@@ -130,7 +136,9 @@ module _ (closing : Closing) (given : Given closing) (c : Chain) (m : List ℕ) 
   -- any reading says what the machine makes of each byte
   meant-is : (x : Reading c mode bs) → sentOf (begun c mode) bs ≡ meant x
   unfolding reading
-  meant-is x = parsed .sends ∙ given .one-reading c mode bs reading x
+  meant-is x =
+      parsed .sends
+      ∙ one-reading c mode (parsed .first) (parsed .others) (x .first) (x .others) (parsed .fits) (x .fits) (reading .bytes ∙ sym (x .bytes))
 
   -- one stop, after j bytes
   module _ (x : Reading c mode bs) (clear : Clear (x .first) (x .others)) (j : ℕ) (l : j < length bs) where
@@ -150,7 +158,7 @@ module _ (closing : Closing) (given : Given closing) (c : Chain) (m : List ℕ) 
           registers = stop-left .regs-many ∙ idle .registers;
           register-bytes = stop-left .reg-bytes (idle .register-bytes);
           memory-bytes = stop-left .cell-bytes (idle .memory-bytes);
-          sound = given .run-keeps (begun c mode) m (take j bs) o-sound (idle .registers) (bytes-take j bs small) stop-more;
+          sound = run-open (begun c mode) m (take j bs) (bytes-take j bs small) (idle .registers) o-sound stop-more;
         }
 
     -- the chain that was stopped, with no run open
@@ -165,63 +173,82 @@ module _ (closing : Closing) (given : Given closing) (c : Chain) (m : List ℕ) 
         restart c shut mode m bs j (meant x) accepted (meant-is x) (unbarred-stream c mode (x .first) (x .others) clear)
         (stop-left .count) (stop-left .kinds) refl
 
-    shut-load : load (ours closing) mode shut (stop .memory) bs ≡ over (runOf (run (begun shut mode) (stop .memory) more) bs)
-    shut-load = load-accepted closing shut (stop .memory) mode shut-sound refl k bs (restarted .accepted)
+    shut-load : load ours mode shut (stop .memory) bs ≡ over (runOf (run (begun shut mode) (stop .memory) more) bs)
+    shut-load = load-accepted shut (stop .memory) mode shut-sound refl k bs (restarted .accepted)
 
-    unbroken : load (ours closing) mode c m bs ≡ over (runOf (run (begun c mode) m more) bs)
-    unbroken = load-accepted closing c m mode (idle .sound) (idle .closed-place) k bs accepted
+    unbroken : load ours mode c m bs ≡ over (runOf (run (begun c mode) m more) bs)
+    unbroken = load-accepted c m mode (idle .sound) (idle .closed-place) k bs accepted
 
     -- closing bytes, and the stream afresh
-    closes-with : (cs : List ℕ) → Shuts (stop .chain) (stop .memory) cs
-        → Closes (ours closing) mode bs (going stop) cs (ours closing .slice (stop .chain) (stop .memory) cs) (load (ours closing) mode c m bs)
-    closes-with cs y =
-        subst (λ (t : AfterSlice). Closes (ours closing) mode bs (going stop) cs t (load (ours closing) mode c m bs))
-        (sym (slice-shut closing (stop .chain) (stop .memory) cs (stop-open .sound) y))
+    abbrev cs : List ℕ
+    cs = closingBytes (stop .chain) (stop .memory)
+
+    shuts-all : Shut ours mode bs (load ours mode c m bs) (going stop) (ours .slice (stop .chain) (stop .memory) cs)
+    shuts-all =
+        let y = shuts (stop .chain) (stop .memory) stop-open in
+        subst (λ (t : AfterSlice). Shut ours mode bs (load ours mode c m bs) (going stop) t)
+        (sym (slice-shut (stop .chain) (stop .memory) cs (stop-open .sound) y))
         (record {
           ends = y .ends;
-          late = λ i h. slice-number closing (stop .chain) (stop .memory) (take i cs) (stop-open .sound) ∙ y .late i h;
-          cells-kept = refl;
-          registers-kept = refl;
-          again = load-whole closing shut (stop .memory) mode shut-sound refl k bs (restarted .accepted) (restarted .taken ∙ all-taken);
+          shut = refl;
+          kept = record { cells = refl; registers = refl; count = refl; kinds = refl };
+          again = load-whole shut (stop .memory) mode shut-sound refl k bs (restarted .accepted) (restarted .taken ∙ all-taken);
           again-cells = ap (λ (t : AfterSlice). t .memory) shut-load ∙ restarted .cells ∙ sym (ap (λ (t : AfterSlice). t .memory) unbroken);
           again-registers = ap (λ (t : AfterSlice). t .fed .chain .registers) shut-load ∙ restarted .regs
               ∙ sym (ap (λ (t : AfterSlice). t .fed .chain .registers) unbroken);
         })
 
-    stopped : Stopped (ours closing) mode bs c m (take j (meant x)) (going stop)
+    closes-all : Closes ours mode bs (load ours mode c m bs) (going stop) cs
+    closes-all =
+        record {
+          some = closing-some (stop .chain) (stop .memory) stop-open;
+          late = λ i h ps last e.
+              ap (λ (a : AfterSlice). a .fed .answer .number) (closing-part (stop .chain) (stop .memory) stop-open i h ps last e)
+              ∙ slice-number (stop .chain) (stop .memory) (take i cs) (stop-open .sound) ∙ shuts (stop .chain) (stop .memory) stop-open .late i h;
+          shuts = λ ps b last e.
+              subst (λ (t : AfterSlice). Shut ours mode bs (load ours mode c m bs) (going stop) t)
+              (sym (closing-cut (stop .chain) (stop .memory) stop-open ps b last e)) shuts-all;
+        }
+
+    many : j ≤ length (meant x)
+    many = omega (arith, length-bytes (meant x), ap length (x .bytes))
+
+    fed-going : (r : Run) → r .number ≡ more → _≡_ {A = AfterSlice} (record { fed = fedOf r; memory = r .memory }) (going r)
+    unfolding fedOf
+    fed-going r e = rw e
+
+    stop-seen : Seen writing c m (take j (meant x)) more (going stop)
+    stop-seen =
+        let n = count-sound c (length m) (state-sound c (length m) (idle .sound)) in
+        subst (λ (a : AfterSlice). Seen writing c m (take j (meant x)) more a) (fed-going stop stop-more)
+        (seen writing mode c m (take j bs) (take j (meant x)) more (sent-take j bs (begun c mode) ∙ ap (take j) (meant-is x))
+        (omega (arith, length-take j (meant x), stream-short c mode (x .first) (x .others) (n .1) (x .fits))) stop-more)
+
+    stopped : Stopped ours mode bs c m (take j (meant x)) (going stop)
     stopped =
         record {
-          runs = refl;
-          taken = stop-left .taken ∙ sym (length-take-le j (meant x) many);
-          cells = stop-left .cells;
-          cells-many = stop-left .cells-many;
-          regs = stop-left .regs;
-          regs-many = stop-left .regs-many;
-          room = λ out h. given .room (stop .chain) (stop .memory) out stop-open (rw (stop-left .kinds) h);
-          closes = λ out h. closes-with (offered (closing (stop .chain) (stop .memory) out)) (given .shuts (stop .chain) (stop .memory) out stop-open h);
+          seen = stop-seen;
+          room = λ out h. room (stop .chain) (stop .memory) out stop-open (rw (stop-left .kinds) h);
+          closes = λ out h.
+              subst (λ (l : List ℕ). Closes ours mode bs (load ours mode c m bs) (going stop) l) (sym (offers (stop .chain) (stop .memory) out h)) closes-all;
         }
-      where
-        many : j ≤ length (meant x)
-        many = omega (arith, length-bytes (meant x), ap length (x .bytes))
 
-    stop-is : load (ours closing) mode c m (take j bs) ≡ going stop
+    stop-is : load ours mode c m (take j bs) ≡ going stop
     stop-is =
-        load-is closing c m mode (idle .sound) (idle .closed-place) k (take j bs)
-        ∙ slice-going closing (begun c mode) m (take j bs) o-sound stop-more
+        load-is c m mode (idle .sound) (idle .closed-place) k (take j bs)
+        ∙ slice-going (begun c mode) m (take j bs) o-sound stop-more
 
 -- every stream that loads whole, stopped after one slice
-pub record HeldOnce (closing : Closing) (mode : ℕ) (bs : List ℕ) (c : Chain) (m : List ℕ) : Type 0 where
+pub record HeldOnce (mode : ℕ) (bs : List ℕ) (c : Chain) (m : List ℕ) : Type 0 where
   pub reads : Reading c mode bs
   pub stops : (x : Reading c mode bs) → Clear (x .first) (x .others) → (k : ℕ) → k < length bs
-      → Stopped (ours closing) mode bs c m (take k (meant x)) (load (ours closing) mode c m (take k bs))
+      → Stopped ours mode bs c m (take k (meant x)) (load ours mode c m (take k bs))
 
-pub third : (closing : Closing) → Given closing → (c : Chain) (m : List ℕ) (mode : ℕ) (bs : List ℕ) → Idle c m → Mode mode → Bytes bs
-    → Whole (ours closing) mode bs c m → HeldOnce closing mode bs c m
-third closing given c m mode bs idle k small w =
+pub third : (c : Chain) (m : List ℕ) (mode : ℕ) (bs : List ℕ) → Idle c m → Mode mode → Bytes bs → Whole ours mode bs c m → HeldOnce mode bs c m
+third c m mode bs idle k small w =
     record {
-      reads = reading closing given c m mode bs idle k small w;
+      reads = reading c m mode bs idle k small w;
       stops = λ x clear j l.
-          subst (λ (s : AfterSlice). Stopped (ours closing) mode bs c m (take j (meant x)) s)
-          (sym (stop-is closing given c m mode bs idle k small w x clear j l))
-          (stopped closing given c m mode bs idle k small w x clear j l);
+          subst (λ (s : AfterSlice). Stopped ours mode bs c m (take j (meant x)) s) (sym (stop-is c m mode bs idle k small w x clear j l))
+          (stopped c m mode bs idle k small w x clear j l);
     }

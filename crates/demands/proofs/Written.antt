@@ -5,16 +5,15 @@ use mathlib.Core.List.{List, [], _∷_, _++_, append-nil, append-assoc}
 use native.Mathlib.Omega.{arith}
 use lib.ListN.{length, take, drop, length-append, length-drop, take-append-drop}
 use lib.Seq.{take-at, drop-at, length-take-le}
-use Rattle.chain.specs.declared.Chain.{Chain}
 use Rattle.chain.specs.Paper.{no-windows, done}
 use Rattle.chain.specs.Kinds.{sizeOf}
+use Rattle.chain.specs.Calls.{noChain}
 use Rattle.writer.specs.Stream.{headBytes, streamOf, windowsBytes as windowsWritten}
 use Rattle.writer.specs.Write.{sumOf, writeNumber, writeOf, writeOutput}
 use Rattle.writer.proofs.Accepted.{Within, accepts}
 use Rattle.writer.proofs.Lengths.{front}
 use Rattle.demands.specs.Grammar.{Window, Section, sectionsSent, bytesOf, AllFit, SectionFits}
-use Rattle.demands.specs.Loader.{AfterWrite, Mode}
-use Rattle.demands.specs.Demand3.{offered}
+use Rattle.demands.specs.Loader.{AfterWrite, Mode, offered}
 use Rattle.demands.specs.Files.{starts, ends, cells, nulled, nullsOff, wanted}
 use Rattle.demands.specs.Ours.{ours}
 use Rattle.demands.proofs.SectionBytes.{windowsBytes, section-bytes, starts-many, ends-many, nulled-many}
@@ -42,25 +41,25 @@ cells-sum size (w ∷ ws) f = omega (arith, f .0 .full, cells-sum size ws (f .1)
 abbrev pub addressOf : Section → List ℕ
 addressOf x = x .address0 ∷ x .address1 ∷ x .address2 ∷ []
 
-module _ (c : Chain) (size mode : ℕ) (x : Section) (f : AllFit size (x .windows)) where
-  pub stream-written : streamOf mode (x .control) (addressOf x) (starts (x .windows)) (ends (x .windows)) (cells (x .windows)) ≡ wanted c mode (nullsOff x)
+module _ (size mode : ℕ) (x : Section) (f : AllFit size (x .windows)) where
+  pub stream-written : streamOf mode (x .control) (addressOf x) (starts (x .windows)) (ends (x .windows)) (cells (x .windows)) ≡ wanted mode (nullsOff x)
   unfolding streamOf headBytes
   stream-written =
       rw (
         windows-written size (x .windows) f,
         starts-many (x .windows),
-        ← append-nil (bytesOf (sectionsSent c 0 (nullsOff x) [])),
-        section-bytes c (nullsOff x) [],
+        ← append-nil (bytesOf (sectionsSent noChain 0 (nullsOff x) [])),
+        section-bytes noChain (nullsOff x) [],
         nulled-many (x .windows),
       )
       (simp append-assoc)
 
 -- the writer's answer and output
-module _ (kind mode : ℕ) (x : Section) (out : List ℕ) (c : Chain) (f : SectionFits (sizeOf kind) x) where
+module _ (kind mode : ℕ) (x : Section) (out : List ℕ) (f : SectionFits (sizeOf kind) x) where
   abbrev pub wrote : AfterWrite
   wrote = ours .write kind mode (x .control) (addressOf x) (starts (x .windows)) (ends (x .windows)) (cells (x .windows)) out
 
-  pub wrote-number : (sizeOf kind ≡ 0 → ⊥) → Mode mode → length (wanted c mode (nullsOff x)) ≤ length out → wrote .written .number ≡ done
+  pub wrote-number : (sizeOf kind ≡ 0 → ⊥) → Mode mode → length (wanted mode (nullsOff x)) ≤ length out → wrote .written .number ≡ done
   unfolding writeOf writeNumber
   wrote-number known o room =
       let few : length (x .windows) ≤ no-windows = f .few in
@@ -76,15 +75,15 @@ module _ (kind mode : ℕ) (x : Section) (out : List ℕ) (c : Chain) (f : Secti
         few = omega arith;
         inside = within (sizeOf kind) (x .windows) (f .fit);
         all = cells-sum (sizeOf kind) (x .windows) (f .fit);
-        fits = rw (stream-written c (sizeOf kind) mode x (f .fit)) room;
+        fits = rw (stream-written (sizeOf kind) mode x (f .fit)) room;
       })
 
-  pub wrote-bytes : wrote .written .number ≡ done → offered wrote ≡ wanted c mode (nullsOff x)
+  pub wrote-bytes : wrote .written .number ≡ done → offered wrote ≡ wanted mode (nullsOff x)
   unfolding writeOf writeOutput
   wrote-bytes z =
       front kind mode (x .control) (addressOf x) (starts (x .windows)) (ends (x .windows)) (cells (x .windows)) out (wrote .written) (wrote .out)
       (record { answer = refl; output = refl }) z .1
-      ∙ stream-written c (sizeOf kind) mode x (f .fit)
+      ∙ stream-written (sizeOf kind) mode x (f .fit)
 
 -- ---- windows out of tables: they have the tables' starts and ends, and the data
 

@@ -1,5 +1,6 @@
--- The second demand, clause (a): a stream that fits loads as its windows, later over earlier, or is checked against them. Assumes nothing.
-use Prim.Native.Nat.{ℕ, suc, _+_, _<_}
+-- The second demand, the clauses about feeding bytes: (a) a stream that fits loads as its windows, later over earlier, or is checked
+-- against them; (d) the byte that ends a run changes nothing; (e) what is accepted fits; (f) a check stores nothing. Assumes nothing.
+use Prim.Native.Nat.{ℕ, suc, _+_, _%_, _^_, _<_}
 use mathlib.Core.Bool.{false}
 use mathlib.Core.Path.{_≡_}
 use mathlib.Core.List.{List, [], _∷_, _++_}
@@ -63,15 +64,65 @@ abbrev pub joined : List (List ℕ) → List ℕ
 joined [] = []
 joined (p ∷ ps) = p ++ joined ps
 
--- the stream and each front part of it, cut into slices in any way; the last slice of a whole stream has its postamble, and whatever
--- follows that is not looked at
-pub record Loads (l : Loader) (check mode : ℕ) (c : Chain) (m : List ℕ) (xs : List Sent) : Type 0 where
+-- a run started afresh, and fed slice after slice
+abbrev pub ran : Loader → ℕ → ℕ → Chain → List ℕ → List (List ℕ) → List ℕ → AfterSlice
+ran l check mode c m ps last = slices l (l .start c m mode check .chain) m ps last
+
+-- the bytes bs, and each front part of them, are seen as xs, cut into slices in any way; the last slice of them all has their last
+-- byte, and whatever follows that is not looked at
+pub record Loads (l : Loader) (check mode : ℕ) (c : Chain) (m bs : List ℕ) (xs : List Sent) : Type 0 where
   pub started : l .start c m mode check .number ≡ done
-  pub whole : (ps : List (List ℕ)) (b : ℕ) (last rest : List ℕ) → joined ps ++ (b ∷ last) ≡ bytesOf xs
-      → Seen check c m xs done (slices l (l .start c m mode check .chain) m ps ((b ∷ last) ++ rest))
-  pub part : (k : ℕ) → k < length xs → (ps : List (List ℕ)) (last : List ℕ) → joined ps ++ last ≡ take k (bytesOf xs)
-      → Seen check c m (take k xs) more (slices l (l .start c m mode check .chain) m ps last)
+  pub whole : (ps : List (List ℕ)) (b : ℕ) (last rest : List ℕ) → joined ps ++ (b ∷ last) ≡ bs
+      → Seen check c m xs done (ran l check mode c m ps ((b ∷ last) ++ rest))
+  pub part : (k : ℕ) → k < length xs → (ps : List (List ℕ)) (last : List ℕ) → joined ps ++ last ≡ take k bs
+      → Seen check c m (take k xs) more (ran l check mode c m ps last)
 
 abbrev pub Demand2a : Loader → Type 0
 Demand2a l = (c : Chain) (m : List ℕ) (check mode : ℕ) (s : Section) (ss : List Section) → Idle c m → Mode mode → Fitting c check mode s ss
-    → Loads l check mode c m (streamSent c mode s ss)
+    → Loads l check mode c m (bytesOf (streamSent c mode s ss)) (streamSent c mode s ss)
+
+-- no cell, no register, count or kind has changed
+pub record Kept (c : Chain) (m : List ℕ) (a : AfterSlice) : Type 0 where
+  pub cells : a .memory ≡ m
+  pub registers : a .fed .chain .registers ≡ c .registers
+  pub count : a .fed .chain .count ≡ c .count
+  pub kinds : a .fed .chain .kinds ≡ c .kinds
+
+-- a is what bytes left that did not end the run, b what they and one that ends it left, whatever followed: that byte is taken, closes the
+-- run and changes nothing, so that what earlier bytes stored stays. Both counts are kept modulo 2^32
+pub record Ended (a b : AfterSlice) : Type 0 where
+  pub taken : b .fed .answer .taken ≡ (a .fed .answer .taken + 1) % 2 ^ 32
+  pub mismatches : b .fed .answer .mismatches ≡ a .fed .answer .mismatches % 2 ^ 32
+  pub kept : Kept (a .fed .chain) (a .memory) b
+  pub shut : b .fed .chain .place .running ≡ closed
+
+abbrev pub Demand2d : Loader → Type 0
+Demand2d l = (c : Chain) (m s : List ℕ) (k : ℕ) → k < length s → l .slice c m (take k s) .fed .answer .number ≡ more
+    → (l .slice c m (take (suc k) s) .fed .answer .number ≡ more → ⊥) → Ended (l .slice c m (take k s)) (l .slice c m s)
+
+-- a reading of a stream: sections that fit the chain, and whose bytes it is
+pub record Reading (c : Chain) (mode : ℕ) (bs : List ℕ) : Type 0 where
+  pub first : Section
+  pub others : List Section
+  pub fits : SectionsFit c 0 first others
+  pub bytes : bytesOf (streamSent c mode first others) ≡ bs
+
+-- each byte of the stream, with what it is meant for
+abbrev pub meant : {c : Chain} {mode : ℕ} {bs : List ℕ} → Reading c mode bs → List Sent
+meant {c} {mode} x = streamSent c mode (x .first) (x .others)
+
+-- bs has a reading, and whatever its reading, each device met lets the run in
+pub record LetIn (check mode : ℕ) (c : Chain) (bs : List ℕ) : Type 0 where
+  pub reading : Reading c mode bs
+  pub lets : (x : Reading c mode bs) → AllLet check (c .registers) 0 (x .first) (x .others)
+
+-- what is accepted, of bytes cut in any way and as far as they were taken
+abbrev pub Demand2e : Loader → Type 0
+Demand2e l = (c : Chain) (m : List ℕ) (check mode : ℕ) (ps : List (List ℕ)) (last : List ℕ) → Idle c m → Mode mode → Bytes (joined ps ++ last)
+    → ran l check mode c m ps last .fed .answer .number ≡ done
+    → LetIn check mode c (take (ran l check mode c m ps last .fed .answer .taken) (joined ps ++ last))
+
+-- a check, whatever it is fed and whatever it answers
+abbrev pub Demand2f : Loader → Type 0
+Demand2f l = (c : Chain) (m : List ℕ) (check mode : ℕ) (ps : List (List ℕ)) (last : List ℕ) → Idle c m → Mode mode → eqb check writing ≡ false
+    → Kept c m (ran l check mode c m ps last)
