@@ -25,7 +25,8 @@ use Rattle.demands.proofs.Meant.{reading, walk-meant}
 use Rattle.demands.proofs.LetIn.{stream-let}
 use Rattle.demands.proofs.Stop.{bytes-take}
 use Rattle.demands.proofs.Used.{Used, used, used-taken}
-use Rattle.demands.proofs.Cuts.{bytes-front, slices-done, slices-join}
+use Rattle.demands.proofs.ByteLists.{bytes-front}
+use Rattle.demands.proofs.Cuts.{slices-done, slices-join}
 
 module _ (c : Chain) (m : List ℕ) (check mode : ℕ) (bs : List ℕ) (i : Idle c m) (o : Mode mode) (u : Bytes bs) where
   abbrev begun : Chain

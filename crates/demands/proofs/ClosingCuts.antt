@@ -7,7 +7,7 @@ use mathlib.Core.List.{List, [], _∷_, _++_}
 use native.Mathlib.Nat.{mod-lt}
 use native.Mathlib.Omega.{arith}
 use lib.Dec.{eqb, ltb, lit<}
-use lib.ListN.{length, getD, take, drop, length-append}
+use lib.ListN.{length, take, drop}
 use lib.Seq.{take-append-seam}
 use borrow.Author.Tests.{eq-eqb}
 use Rattle.chain.specs.declared.Chain.{Chain}
@@ -26,7 +26,8 @@ use Rattle.demands.specs.Grammar.{Bytes}
 use Rattle.demands.specs.Loader.{offered}
 use Rattle.demands.specs.Demand2.{slices, joined}
 use Rattle.demands.specs.Ours.{ours}
-use Rattle.demands.proofs.Cuts.{bytes-front, open-front, slices-join, front-open}
+use Rattle.demands.proofs.ByteLists.{bytes-front, bytes-both, bytes-at}
+use Rattle.demands.proofs.Cuts.{open-front, slices-join, front-open}
 use Rattle.demands.proofs.Stop.{bytes-take}
 
 -- a lent chain that no number refuses, with a run open: eight kinds and registers, and bytes, as the types of the code say
@@ -62,19 +63,10 @@ room s m out o e = room-enough s m (length out) (o .kinds) (feed-is-open s (leng
 
 -- ---- they are bytes
 
-get-small : (xs : List ℕ) (i : ℕ) → Bytes xs → getD xs i 0 < 256
-get-small [] i u = lit< tt
-get-small (x ∷ xs) zero u = u .0
-get-small (x ∷ xs) (suc i) u = get-small xs i (u .1)
-
 drop-small : (n : ℕ) (xs : List ℕ) → Bytes xs → Bytes (drop n xs)
 drop-small zero xs u = u
 drop-small (suc n) [] u = tt
 drop-small (suc n) (x ∷ xs) u = drop-small n xs (u .1)
-
-append-small : (xs ys : List ℕ) → Bytes xs → Bytes ys → Bytes (xs ++ ys)
-append-small [] ys u v = v
-append-small (x ∷ xs) ys u v = (u .0, append-small xs ys (u .1) v)
 
 pick-small : (k : Bool) (xs ys : List ℕ) → Bytes xs → Bytes ys → Bytes (pick k xs ys)
 pick-small true xs ys u v = u
@@ -97,7 +89,7 @@ module _ (c : Chain) (m : List ℕ) (g : Bytes (c .registers)) (u : Bytes m) whe
 
   window-small : (first last : ℕ) → Bytes (window c m first last)
   window-small first last =
-      append-small (take (last - first + 1) (drop (baseOf (c .kinds) (c .place .device) + first) m)) (tail (c .place))
+      bytes-both (take (last - first + 1) (drop (baseOf (c .kinds) (c .place .device) + first) m)) (tail (c .place))
       (bytes-take (last - first + 1) (drop (baseOf (c .kinds) (c .place .device) + first) m) (drop-small (baseOf (c .kinds) (c .place .device) + first) m u)) tail-small
 
   abbrev rows : List (Row (List ℕ))
@@ -126,7 +118,7 @@ module _ (c : Chain) (m : List ℕ) (g : Bytes (c .registers)) (u : Bytes m) whe
         (
           (lit< tt, tt),
           (
-            (get-small (c .registers) (c .place .device) g, (lit< tt, (lit< tt, (lit< tt, (lit< tt, (lit< tt, tt)))))),
+            (bytes-at (c .registers) g (c .place .device), (lit< tt, (lit< tt, (lit< tt, (lit< tt, (lit< tt, tt)))))),
             (
               (lit< tt, (lit< tt, (lit< tt, (lit< tt, (lit< tt, tt))))),
               (

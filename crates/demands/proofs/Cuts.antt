@@ -25,16 +25,9 @@ use Rattle.demands.specs.Grammar.{Bytes}
 use Rattle.demands.specs.Loader.{AfterSlice}
 use Rattle.demands.specs.Demand2.{slices, joined}
 use Rattle.demands.specs.Ours.{ours}
+use Rattle.demands.proofs.ByteLists.{bytes-front, bytes-back}
 
 -- ---- slices one after another are one slice
-
-pub bytes-front : (xs ys : List ℕ) → Bytes (xs ++ ys) → Bytes xs
-bytes-front [] ys h = tt
-bytes-front (x ∷ xs) ys h = (h .0, bytes-front xs ys (h .1))
-
-pub bytes-back : (xs ys : List ℕ) → Bytes (xs ++ ys) → Bytes ys
-bytes-back [] ys h = h
-bytes-back (x ∷ xs) ys h = bytes-back xs ys (h .1)
 
 -- a run that is open after a and b was open after a
 pub open-front : (a b : List ℕ) (r : Run) → runOf r (a ++ b) .number ≡ more → runOf r a .number ≡ more

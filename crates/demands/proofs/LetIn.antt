@@ -7,7 +7,6 @@ use mathlib.Core.List.{List, [], _∷_, _++_}
 use native.Mathlib.Omega.{arith}
 use lib.Dec.{eqb}
 use lib.ListN.{length, getD, set}
-use lib.Seq.{getD-set-other}
 use borrow.Author.Tests.{eqb-true}
 use Rattle.chain.specs.declared.Chain.{Chain}
 use Rattle.chain.specs.Paper.{preamble, postamble, no-windows, at·control, at·data, at·check, writing, checking, most-devices, two-preambles, more, B3, B4}
@@ -28,6 +27,7 @@ use Rattle.demands.specs.Demand2.{Lets, AllLet}
 use Rattle.demands.proofs.Along.{aim, sentOf, put}
 use Rattle.demands.proofs.Accepted.{Accepted, last, next}
 use Rattle.demands.proofs.Read.{finished}
+use Rattle.demands.proofs.Forward.{lets-alike, loaded-alike}
 
 -- ---- a walk whose control bytes are let in
 
@@ -159,17 +159,6 @@ past-plain w g (x ∷ xs) ys p h =
 lets-of : (check stored control : ℕ) → LetBy (eqb check writing) stored control → Lets check stored control
 lets-of check stored control h = record { b4 = h .b4; b3 = h .b3; sent-b3 = h .sent-b3 }
 
--- a control byte leaves the registers of the devices after it
-other-registers : (w : Bool) (g : List ℕ) (d b e : ℕ) → suc d ≤ e → getD (pick w (set g d b) g) e 0 ≡ getD g e 0
-other-registers true g d b e l = getD-set-other g d e b 0 (λ z. omega arith)
-other-registers false g d b e l = refl
-
-lets-alike : (check : ℕ) (g h : List ℕ) (d : ℕ) (s : Section) (ss : List Section) → ((e : ℕ) → d ≤ e → getD h e 0 ≡ getD g e 0)
-    → AllLet check h d s ss → AllLet check g d s ss
-lets-alike check g h d s [] q l = subst (λ (x : ℕ). Lets check x (s .control)) (q d (omega arith)) l
-lets-alike check g h d s (t ∷ ts) q l =
-    (subst (λ (x : ℕ). Lets check x (s .control)) (q d (omega arith)) (l .0), lets-alike check g h (suc d) t ts (λ e n. q e (omega arith)) (l .1))
-
 sections-let : (c : Chain) (check : ℕ) (g : List ℕ) (d : ℕ) (s : Section) (ss : List Section) → LetAlong (eqb check writing) g (sectionsSent c d s ss)
     → AllLet check g d s ss
 sections-let c check g d s [] h = lets-of check (getD g d 0) (s .control) (h .0)
@@ -180,7 +169,7 @@ sections-let c check g d s (t ∷ ts) h =
     let past = past-plain (eqb check writing) g′ head (frame preamble ∷ sectionsSent c (suc d) t ts)
     (refl, (refl, (refl, (refl, plain-windows (baseAt c d) (s .windows))))) (h .1) in (
       lets-of check (getD g d 0) (s .control) (h .0),
-      lets-alike check g g′ (suc d) t ts (other-registers (eqb check writing) g d (s .control))
+      lets-alike check g′ g (suc d) t ts (λ e l. sym (loaded-alike (eqb check writing) g d (s .control) e l))
           (sections-let c check g′ (suc d) t ts (past-plain (eqb check writing) g′ (frame preamble ∷ []) (sectionsSent c (suc d) t ts) (refl, tt) past)),
     )
 

@@ -19,10 +19,10 @@ pub mod Windows
 pub mod Parse
 pub mod Plain
 pub mod Meant
-pub mod LetIn
 pub mod Short
 pub mod Counts
 pub mod Forward
+pub mod LetIn
 pub mod Seen
 pub mod Lock
 pub mod Free
@@ -32,6 +32,7 @@ pub mod Stop
 pub mod SectionBytes
 pub mod Listed
 pub mod Written
+pub mod ByteLists
 pub mod Cuts
 pub mod SecondA
 pub mod SecondB

@@ -23,11 +23,12 @@ use Rattle.closing.specs.Closing.{closingBytes}
 use Rattle.closing.specs.Calls.{writtenNumber, closingOf, closingOutput}
 use Rattle.demands.specs.Grammar.{Window, Section, Bytes, bytesOf, streamSent}
 use Rattle.demands.specs.Loader.{Loader, Idle, Mode}
-use Rattle.demands.specs.Demand2.{Lets, AllLet, Fitting, joined, ran, Demand2a, Demand2d, Demand2e, Demand2f}
+use Rattle.demands.specs.Demand2.{Fitting, joined, ran, Demand2a, Demand2d, Demand2e, Demand2f}
 use Rattle.demands.specs.Demand3.{Whole, Demand3}
 use Rattle.demands.specs.Files.{sectionOf, starts, offsets, Demand2b}
 use Rattle.demands.specs.Ours.{ours}
 use Rattle.demands.specs.Wrong.{undoing, exclusiveEnd, plainCount, barring, checkWrites, earlierWins, shortClosing, offsetsFromFirst}
+use Rattle.demands.proofs.Forward.{first-lets}
 use Rattle.demands.proofs.StreamA.{teaching, cells0, windowA, sectionA, zeros-bytes, idle-teaching, mode-one, fits-A, streamA, small-A, reading-A}
 use Rattle.demands.proofs.Shut.{whole-seen}
 
@@ -84,17 +85,13 @@ pub check-stores-out : (l : Loader) → Demand2f l → (c : Chain) (m : List ℕ
     → eqb check writing ≡ false → (ran l check mode c m ps last .memory ≡ m → ⊥) → ⊥
 check-stores-out l d c m check mode ps last i o e h = h (d c m check mode ps last i o e .cells)
 
-first-lets : (check : ℕ) (g : List ℕ) (s : Section) (ss : List Section) → AllLet check g 0 s ss → Lets check (getD g 0 0) (s .control)
-first-lets check g s [] h = h
-first-lets check g s (t ∷ ts) h = h .0
-
 -- and one that is accepted where B3 is stored: here it is 7
 pub check-accepts-out : (l : Loader) → Demand2e l → (c : Chain) (m : List ℕ) (check mode : ℕ) (ps : List (List ℕ)) (last : List ℕ) → Idle c m → Mode mode
     → Bytes (joined ps ++ last) → eqb check writing ≡ false → B3 (getD (c .registers) 0 0) ≡ true → ran l check mode c m ps last .fed .answer .number ≡ done → ⊥
 check-accepts-out l d c m check mode ps last i o u e b z =
     let k = d c m check mode ps last i o u z in
     let x = k .reading in
-    true≢false (sym b ∙ first-lets check (c .registers) (x .first) (x .others) (k .lets x) .b3 e)
+    true≢false (sym b ∙ first-lets check (c .registers) 0 (x .first) (x .others) (k .lets x) .b3 e)
 
 -- the teaching array with B3 stored
 abbrev disabled : Chain

@@ -28,7 +28,8 @@ use Rattle.demands.specs.Loader.{AfterSlice, Idle, Mode}
 use Rattle.demands.specs.Demand2.{Fitting, Seen, slices, joined, Demand2a}
 use Rattle.demands.specs.Ours.{ours}
 use Rattle.demands.proofs.Along.{sentOf, sent-take}
-use Rattle.demands.proofs.Cuts.{bytes-front, open-front, slices-join, front-open}
+use Rattle.demands.proofs.ByteLists.{bytes-front}
+use Rattle.demands.proofs.Cuts.{open-front, slices-join, front-open}
 use Rattle.demands.proofs.Accepted.{Accepted, accepted-done, accepted-open}
 use Rattle.demands.proofs.Forward.{stream-accepted}
 use Rattle.demands.proofs.Meant.{walk-meant}

@@ -1,12 +1,12 @@
 -- The second demand, clause (b): what is written is a stream of one section that fits, lists as what the writer was given, and loads.
 -- Assumes nothing.
-use Prim.Native.Nat.{ℕ, zero, suc, _^_, _<_}
+use Prim.Native.Nat.{ℕ, suc}
 use mathlib.Core.Bool.{_||_}
 use mathlib.Core.Path.{_≡_, refl, ap, sym, subst, _∙_}
 use mathlib.Core.List.{List, [], _∷_, append-nil}
 use native.Mathlib.Omega.{arith}
-use lib.Dec.{eqb, lit<}
-use lib.ListN.{length, getD, take, drop, replicate, length-replicate}
+use lib.Dec.{eqb}
+use lib.ListN.{length, take, drop, replicate, length-replicate}
 use lib.Seq.{take-at}
 use Rattle.chain.specs.Paper.{preamble, serial-external, serial-internal, two-preambles, done}
 use Rattle.chain.specs.Kinds.{sizeOf}
@@ -20,16 +20,12 @@ use Rattle.demands.specs.Grammar.{Window, Section, sectionsSent, streamS
 use Rattle.demands.specs.Loader.{AfterWrite, offered}
 use Rattle.demands.specs.Files.{Room, sectionOf, nullsOff, wanted, given, ListsAs, Wrote, Demand2b}
 use Rattle.demands.specs.Ours.{ours}
+use Rattle.demands.proofs.ByteLists.{bytes-at}
 use Rattle.demands.proofs.SectionBytes.{serial-one, starts-many}
 use Rattle.demands.proofs.Written.{wrote, wrote-bytes, Made, made}
 use Rattle.demands.proofs.Listed.{listed}
 use Rattle.demands.proofs.SecondA.{second-a}
 use Rattle.demands.proofs.WrittenLoads.{Small, section-small, written-loads}
-
-bytes-at : (xs : List ℕ) → Bytes xs → (i : ℕ) → getD xs i 0 < 2 ^ 8
-bytes-at [] u i = lit< tt
-bytes-at (x ∷ xs) u zero = u .0
-bytes-at (x ∷ xs) u (suc i) = bytes-at xs (u .1) i
 
 -- ---- what is given of it: in modes 3 and 4 the hunt finds the preamble at 8
 

@@ -16,7 +16,8 @@ use Rattle.demands.specs.Loader.{AfterSlice, Idle, Mode}
 use Rattle.demands.specs.Demand2.{slices, joined, meant}
 use Rattle.demands.specs.Demand3.{load, Stopped, Demand3}
 use Rattle.demands.specs.Ours.{ours}
-use Rattle.demands.proofs.Cuts.{bytes-front, open-front, slices-join}
+use Rattle.demands.proofs.ByteLists.{bytes-front}
+use Rattle.demands.proofs.Cuts.{open-front, slices-join}
 use Rattle.demands.proofs.Opened.{opened-sound, start-done}
 use Rattle.demands.proofs.Stop.{bytes-take}
 use Rattle.demands.proofs.Third.{third}

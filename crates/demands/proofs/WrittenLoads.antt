@@ -18,22 +18,11 @@ use Rattle.demands.specs.Grammar.{Sent, frame, Window, Section, sections
 use Rattle.demands.specs.Loader.{Loader, Idle, Mode}
 use Rattle.demands.specs.Demand2.{Lets, Fitting, Loads, Demand2a}
 use Rattle.demands.specs.Files.{cells, nulled}
+use Rattle.demands.proofs.ByteLists.{bytes-both, bytes-front, bytes-back}
 use Rattle.demands.proofs.SectionBytes.{windowsBytes, section-bytes, stream-bytes}
 use Rattle.demands.proofs.Opened.{state-sound, count-sound}
 
 -- ---- what is written are bytes
-
-bytes-both : (xs ys : List ℕ) → Bytes xs → Bytes ys → Bytes (xs ++ ys)
-bytes-both [] ys u v = v
-bytes-both (x ∷ xs) ys u v = (u .0, bytes-both xs ys (u .1) v)
-
-bytes-front : (xs ys : List ℕ) → Bytes (xs ++ ys) → Bytes xs
-bytes-front [] ys u = tt
-bytes-front (x ∷ xs) ys u = (u .0, bytes-front xs ys (u .1))
-
-bytes-back : (xs ys : List ℕ) → Bytes (xs ++ ys) → Bytes ys
-bytes-back [] ys u = u
-bytes-back (x ∷ xs) ys u = bytes-back xs ys (u .1)
 
 high-byte : (x size : ℕ) → size ≤ 16381 → x < size → x / 256 < 256
 high-byte x size h l = omega (arith, div-add-mod' x 256)

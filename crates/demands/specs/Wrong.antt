@@ -5,6 +5,7 @@ use mathlib.Core.List.{List, [], _∷_}
 use lib.Dec.{eqb}
 use lib.ListN.{length, getD}
 use Rattle.chain.specs.declared.Chain.{Chain}
+use Rattle.chain.specs.declared.Place.{Place}
 use Rattle.chain.specs.Paper.{at·address, at·count, at·null, at·end-low, at·data, at·check, writing, two-preambles, done, barred, no-check, more, B4}
 use Rattle.chain.specs.Rules.{pick}
 use Rattle.chain.specs.Set.{with·check, with·awaited, with·left, with·end, with·place}
@@ -15,107 +16,75 @@ use Rattle.machine.specs.Calls.{answered, fedOf}
 use Rattle.demands.specs.Loader.{Loader, AfterSlice, with·slice, with·closing, with·list}
 use Rattle.demands.specs.Ours.{ours}
 
-abbrev pub withSlice : (Chain → List ℕ → List ℕ → AfterSlice) → Loader
-withSlice f = with·slice ours f
+-- ours, with what a slice leaves altered
+abbrev pub altered : (Chain → List ℕ → List ℕ → AfterSlice → AfterSlice) → Loader
+altered f = with·slice ours (λ c m s. f c m s (ours .slice c m s))
 
 -- answers n, t and w whatever it is given, and does nothing: with n not 0 it refuses all
 abbrev pub constant : ℕ → ℕ → ℕ → Loader
-constant n t w = withSlice (λ c m s. record { fed = answered c n t w; memory = m })
+constant n t w = altered (λ c m s a. record { fed = answered c n t w; memory = m })
 
 -- answers as ours, and stores nothing
 abbrev pub idle : Loader
-idle = withSlice (λ c m s. record { fed = ours .slice c m s .fed; memory = m })
+idle = altered (λ c m s a. record { fed = a .fed; memory = m })
 
 -- makes up the bytes taken, or the mismatches, by any rule
+abbrev pub counting : (Chain → List ℕ → List ℕ → AfterSlice → ℕ) → (Chain → List ℕ → List ℕ → AfterSlice → ℕ) → Loader
+counting f g = altered (λ c m s a. record { fed = answered (a .fed .chain) (a .fed .answer .number) (f c m s a) (g c m s a); memory = a .memory })
+
 abbrev pub taking : (Chain → List ℕ → List ℕ → ℕ) → Loader
-taking f =
-    withSlice
-    (λ c m s.
-    let a = ours .slice c m s in
-    record { fed = answered (a .fed .chain) (a .fed .answer .number) (f c m s) (a .fed .answer .mismatches); memory = a .memory })
+taking f = counting (λ c m s a. f c m s) (λ c m s a. a .fed .answer .mismatches)
 
 abbrev pub missing : (Chain → List ℕ → List ℕ → ℕ) → Loader
-missing f =
-    withSlice
-    (λ c m s.
-    let a = ours .slice c m s in
-    record { fed = answered (a .fed .chain) (a .fed .answer .number) (a .fed .answer .taken) (f c m s); memory = a .memory })
+missing f = counting (λ c m s a. a .fed .answer .taken) (λ c m s a. f c m s)
 
 -- where a slice ends in a refusal, takes back what that slice stored
 abbrev pub undoing : Loader
-undoing =
-    withSlice
-    (λ c m s.
-    let a = ours .slice c m s in
-    record { fed = a .fed; memory = pick (eqb (a .fed .answer .number) done || eqb (a .fed .answer .number) more) (a .memory) m })
+undoing = altered (λ c m s a. record { fed = a .fed; memory = pick (eqb (a .fed .answer .number) done || eqb (a .fed .answer .number) more) (a .memory) m })
 
--- ---- another machine: step is what it makes of a byte of an open run
+-- ---- another machine: what it makes of a byte of an open run, given what ours makes of it
 
-abbrev pub stepping : (Run → ℕ → Run) → Run → List ℕ → Run
-stepping step r [] = r
-stepping step r (b ∷ bs) = stepping step (pick (eqb (r .number) more) (step r b) r) bs
+abbrev pub stepping : (Chain → List ℕ → ℕ → Run → Run) → Run → List ℕ → Run
+stepping f r [] = r
+stepping f r (b ∷ bs) = stepping f (pick (eqb (r .number) more) (f (r .chain) (r .memory) b (stepOf (r .chain) (r .memory) b)) r) bs
 
-abbrev pub machine : (Run → ℕ → Run) → Loader
-machine step =
-    withSlice
-    (λ c m s.
-    let r = stepping step (run c m more) s in
-    pick (eqb (feedNumber c (length m)) done) (record { fed = fedOf r; memory = r .memory }) (ours .slice c m s))
+abbrev pub bent : (Chain → List ℕ → ℕ → Run → Run) → Loader
+bent f =
+    altered
+    (λ c m s a.
+    let r = stepping f (run c m more) s in
+    pick (eqb (feedNumber c (length m)) done) (record { fed = fedOf r; memory = r .memory }) a)
 
--- our step
-abbrev pub ourStep : Run → ℕ → Run
-ourStep r b = stepOf (r .chain) (r .memory) b
+-- a run that came to another place
+abbrev pub moved : Run → Place → Run
+moved t p = run (with·place (t .chain) p) (t .memory) (t .number)
 
 -- at the first data byte of a window the memory becomes what f makes of it, the bytes not given yet made up; idle through the rest
 abbrev pub eager : (Chain → List ℕ → ℕ → List ℕ) → Loader
-eager f =
-    machine
-    (λ r b.
-    let p = r .chain .place in
-    let t = ourStep r b in
-    run (t .chain) (pick (awaits (r .chain) at·data && writes (r .chain) && eqb (p .next) (p .start)) (f (r .chain) (r .memory) b) (r .memory)) (t .number))
+eager f = bent (λ c m b t. run (t .chain) (pick (awaits c at·data && writes c && eqb (c .place .next) (c .place .start)) (f c m b) m) (t .number))
 
 -- ---- 'Easy to get wrong'
 
 -- an end taken as exclusive
 abbrev pub exclusiveEnd : Loader
-exclusiveEnd =
-    machine
-    (λ r b.
-    let t = ourStep r b in
-    pick (awaits (r .chain) at·end-low) (run (with·place (t .chain) (with·end (t .chain .place) (t .chain .place .end - 1))) (t .memory) (t .number)) t)
+exclusiveEnd = bent (λ c m b t. pick (awaits c at·end-low) (moved t (with·end (t .chain .place) (t .chain .place .end - 1))) t)
 
 -- a plain count: FE read as 254 windows
 abbrev pub plainCount : Loader
 plainCount =
-    machine
-    (λ r b.
-    let t = ourStep r b in
-    pick (awaits (r .chain) at·count)
-    (run (with·place (t .chain) (with·awaited (with·left (t .chain .place) b) (pick (eqb b 0) at·check at·null))) (t .memory) (t .number))
-    t)
+    bent (λ c m b t. pick (awaits c at·count) (moved t (with·awaited (with·left (t .chain .place) b) (pick (eqb b 0) at·check at·null))) t)
 
 -- B4 applied to the stream that sets it: the byte after such a control byte ends the run with 6
 abbrev pub barring : Loader
-barring =
-    machine
-    (λ r b.
-    pick (awaits (r .chain) at·address && B4 (r .chain .place .control)) (run (ended (r .chain)) (r .memory) barred) (ourStep r b))
+barring = bent (λ c m b t. pick (awaits c at·address && B4 (c .place .control)) (run (ended c) m barred) t)
 
 -- a check with B3 set goes on as a write, where ours gives 7
 abbrev pub checkWrites : Loader
-checkWrites =
-    machine
-    (λ r b.
-    pick (eqb (ourStep r b .number) no-check) (ourStep (run (with·place (r .chain) (with·check (r .chain .place) writing)) (r .memory) more) b) (ourStep r b))
+checkWrites = bent (λ c m b t. pick (eqb (t .number) no-check) (stepOf (with·place c (with·check (c .place) writing)) m b) t)
 
 -- of overlapping windows the earlier wins: a cell that is not zero is stored no more
 abbrev pub earlierWins : Loader
-earlierWins =
-    machine
-    (λ r b.
-    let t = ourStep r b in
-    pick (awaits (r .chain) at·data && writes (r .chain) && not (eqb (getD (r .memory) (addressOf (r .chain)) 0) 0)) (run (t .chain) (r .memory) (t .number)) t)
+earlierWins = bent (λ c m b t. pick (awaits c at·data && writes c && not (eqb (getD m (addressOf c) 0) 0)) (run (t .chain) m (t .number)) t)
 
 -- ---- other calls
 
