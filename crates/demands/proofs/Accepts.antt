@@ -2,7 +2,7 @@
 -- clause (e) of the second demand holds of our loader. Assumes nothing.
 use Prim.Native.Nat.{ℕ, _^_, _≤_, _<_}
 use mathlib.Core.Path.{_≡_, refl, ap, sym, subst, _∙_}
-use mathlib.Core.List.{List, [], _∷_, _++_}
+use mathlib.Core.List.{List, [], _++_}
 use lib.ListN.{length, take}
 use Rattle.chain.specs.declared.Chain.{Chain}
 use Rattle.chain.specs.declared.Made.{Made}
@@ -10,7 +10,7 @@ use Rattle.chain.specs.Paper.{most-devices, done, more}
 use Rattle.chain.specs.Set.{with·place}
 use Rattle.chain.proofs.Sound.{feed-sound}
 use Rattle.machine.specs.declared.Fed.{Fed}
-use Rattle.machine.specs.Run.{Run, run, runOf}
+use Rattle.machine.specs.Run.{run, runOf}
 use Rattle.machine.specs.Calls.{openedPlace, fedOf, sliceOf}
 use Rattle.machine.proofs.Slices.{slice-runs}
 use Rattle.demands.specs.Grammar.{Sent, Bytes}

@@ -1,6 +1,5 @@
 -- Slices fed one after another are one slice, while the run is open; a chain with no run open hands every slice back. Assumes nothing.
 use Prim.Native.Nat.{ℕ, _<_}
-use mathlib.Core.Bool.{true, false}
 use mathlib.Core.Path.{_≡_, refl, ap, sym, subst, _∙_}
 use mathlib.Core.List.{List, [], _∷_, _++_, append-assoc}
 use native.Mathlib.Omega.{arith}
@@ -12,7 +11,7 @@ use Rattle.chain.specs.declared.Chain.{Chain}
 use Rattle.chain.specs.Paper.{closed, most-devices, done, more}
 use Rattle.chain.specs.State.{feedNumber}
 use Rattle.chain.proofs.ByCases.{by-test}
-use Rattle.chain.proofs.Sound.{feed-sound, feed-never-more}
+use Rattle.chain.proofs.Sound.{feed-sound}
 use Rattle.machine.specs.declared.Fed.{Fed}
 use Rattle.machine.specs.Run.{Run, run, runOf}
 use Rattle.machine.specs.Calls.{unfed, sliceOf, sliceMemory}

@@ -7,6 +7,7 @@ use mathlib.Core.List.{List, [], _∷_}
 use native.Mathlib.Omega.{arith}
 use lib.Dec.{lit<}
 use lib.ListN.{length, getD, take}
+use lib.Seq.{sets}
 use Rattle.chain.specs.declared.Chain.{Chain}
 use Rattle.chain.specs.Kinds.{sizeOf, baseOf, knownOf}
 use Rattle.chain.specs.State.{badChain, unusedZero, wellFormed, illFormed, stateNumber, feedNumber}
@@ -17,6 +18,7 @@ use Rattle.demands.specs.Grammar.{memory, lastTo, Bytes}
 use Rattle.demands.specs.Loader.{Loader, Idle, Mode}
 use Rattle.demands.specs.Demand2.{Reading, meant}
 use Rattle.demands.specs.Demand3.{Clear, Whole, load, Demand3}
+use Rattle.demands.specs.Ours.{ours}
 use Rattle.demands.specs.Wrong.{eager}
 use Rattle.demands.proofs.StreamA.{teaching, cells0, idle-teaching, mode-one, streamA, small-A, reading-A}
 
@@ -43,3 +45,8 @@ eager-out f d =
   where
     no : _≡_ {A = ℕ} 0 0x22 → ⊥
     no q = omega arith
+
+-- where what it makes up is what comes, it loads rightly: it is the stop that shuts it out
+pub eager-right : load (eager (λ c m b. sets m 9 (0x11 ∷ 0x22 ∷ 0x33 ∷ []))) 1 teaching cells0 streamA .memory ≡ load ours 1 teaching cells0 streamA .memory
+unfolding sizeOf baseOf knownOf badChain unusedZero wellFormed illFormed stateNumber feedNumber numberOf passedOf advanceOf addressOf memoryOf registersOf missedOf stepOf runOf startNumber startOf fedOf sliceOf sliceMemory
+eager-right = refl

@@ -1,18 +1,17 @@
 -- A serial stream cut short: what the hunt gives of its first k raw bytes is a front part of what it gives of them all, or number 5. So a
 -- stop of a serial board after k raw bytes is a stop of the hunted bytes. Assumes nothing.
 use Prim.Native.Nat.{ℕ, zero, suc, _+_, _*_, _-_, _/_, _≤_, _<_}
-use mathlib.Core.Bool.{Bool, true, false}
+use mathlib.Core.Bool.{false}
 use mathlib.Core.Logic.{_⊎_, inl, inr}
 use mathlib.Core.Path.{_≡_, refl, ap, sym, subst, _∙_}
-use mathlib.Core.List.{List, [], _∷_}
+use mathlib.Core.List.{List, _∷_}
 use native.Mathlib.Nat.{div-add-mod', mod-lt}
 use native.Mathlib.Omega.{arith}
 use lib.Dec.{eqb, lit<}
-use lib.ListN.{length, getD, take}
+use lib.ListN.{length, take}
 use lib.Seq.{getD-take, length-take-le}
 use borrow.Author.Tests.{eq-eqb}
 use Rattle.chain.specs.Paper.{preamble, no-preamble}
-use Rattle.chain.specs.Rules.{pick}
 use Rattle.chain.proofs.ByCases.{by-test}
 use Rattle.hunt.specs.Bits.{bitAt, bitsFrom, byteAt, bytesFrom, wholeFrom}
 use Rattle.hunt.specs.Hunt.{beginsAt, firstFrom, nowhere, foundAt, huntedBytes, huntNumber, huntOf}

@@ -1,6 +1,6 @@
 -- Each device that an accepted run meets let it in: numbers 6 and 7, which were not given, tell so of each control byte of the run's walk,
 -- and so of each section of any reading of it. Assumes nothing.
-use Prim.Native.Nat.{ℕ, zero, suc, _+_, _-_, _≤_, _<_}
+use Prim.Native.Nat.{ℕ, zero, suc, _+_, _-_, _≤_}
 use mathlib.Core.Bool.{Bool, true, false, _&&_, _||_, and-false, true≢false}
 use mathlib.Core.Path.{_≡_, refl, ap, sym, subst, _∙_}
 use mathlib.Core.List.{List, [], _∷_, _++_}
@@ -14,7 +14,7 @@ use Rattle.chain.specs.Rules.{pick}
 use Rattle.chain.specs.Set.{with·place}
 use Rattle.chain.proofs.ByCases.{by-test}
 use Rattle.chain.proofs.FirstOf.{None, first-none}
-use Rattle.chain.proofs.WellFormed.{Formed, formed-of, write-or-check}
+use Rattle.chain.proofs.WellFormed.{Formed, formed-of}
 use Rattle.chain.proofs.Sound.{Sound}
 use Rattle.machine.specs.Byte.{awaits, begins, registerBegun, byteRules, numberOf}
 use Rattle.machine.specs.Run.{writes, registersOf, wentOn, stepOf}
@@ -22,7 +22,7 @@ use Rattle.machine.specs.Calls.{openedPlace}
 use Rattle.machine.proofs.Keeps.{went-sound}
 use Rattle.machine.proofs.Runs.{step-went, registers-length}
 use Rattle.machine.proofs.Stays.{went-stays}
-use Rattle.demands.specs.Grammar.{baseAt, Target, framing, register, cell, Sent, frame, Window, Section, dataSent, windowSent, windowsSent, sectionSent, sectionsSent, leadSent, streamSent, registers, slot, Bytes}
+use Rattle.demands.specs.Grammar.{baseAt, Target, framing, register, cell, Sent, frame, Window, Section, dataSent, windowSent, windowsSent, sectionsSent, leadSent, streamSent, registers, slot, Bytes}
 use Rattle.demands.specs.Demand2.{Lets, AllLet}
 use Rattle.demands.proofs.Along.{aim, sentOf, put}
 use Rattle.demands.proofs.Accepted.{Accepted, last, next}

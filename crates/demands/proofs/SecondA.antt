@@ -1,28 +1,19 @@
 -- Clause (a) of the second demand holds of our loader: a stream that fits loads or is checked as it is meant, however it is cut into
 -- slices. Assumes nothing.
 use Prim.Native.Nat.{ℕ, _+_, _<_, _≤_, _^_}
-use mathlib.Core.Bool.{true, false}
 use mathlib.Core.Path.{_≡_, refl, ap, sym, subst, _∙_}
-use mathlib.Core.List.{List, [], _∷_, _++_, append-assoc}
+use mathlib.Core.List.{List, _∷_, _++_, append-assoc}
 use native.Mathlib.Omega.{arith}
-use lib.Dec.{eqb}
-use lib.ListN.{length, take, length-append, length-take}
-use lib.Seq.{take-append-seam}
-use borrow.Author.Tests.{eqb-true, eqb-false}
+use lib.ListN.{length, take, length-take}
 use Rattle.chain.specs.declared.Chain.{Chain}
 use Rattle.chain.specs.Paper.{most-devices, done, more}
 use Rattle.chain.specs.Set.{with·place}
 use Rattle.chain.specs.State.{feedNumber}
-use Rattle.chain.proofs.ByCases.{by-test}
 use Rattle.chain.specs.declared.Made.{Made}
-use Rattle.machine.specs.declared.Fed.{Fed}
 use Rattle.machine.specs.Run.{Run, run, runOf}
-use Rattle.machine.specs.Calls.{openedPlace, fedOf, sliceOf, sliceMemory}
+use Rattle.machine.specs.Calls.{openedPlace, fedOf}
 use Rattle.machine.proofs.Feed.{run-append, run-over}
-use Rattle.machine.proofs.Keeps.{run-open}
-use Rattle.machine.proofs.Runs.{run-lasts}
-use Rattle.machine.proofs.Slices.{slice-runs, fed-more, fed-number}
-use Rattle.machine.proofs.Append.{slice-more}
+use Rattle.machine.proofs.Slices.{slice-runs}
 use Rattle.demands.specs.Grammar.{Sent, Section, bytesOf, streamSent, Bytes}
 use Rattle.demands.specs.Loader.{AfterSlice, Idle, Mode}
 use Rattle.demands.specs.Demand2.{Fitting, Seen, slices, joined, Demand2a}

@@ -16,7 +16,7 @@ use Rattle.writer.specs.Stream.{leadIn, streamOf}
 use Rattle.writer.specs.Write.{writeNumber, writeOf}
 use Rattle.writer.proofs.Accepted.{Accepted, accepted}
 use Rattle.hunt.proofs.Framed.{framed-hunt}
-use Rattle.demands.specs.Grammar.{Window, Section, sectionsSent, streamSent, bytesOf, SectionFits, Bytes}
+use Rattle.demands.specs.Grammar.{Section, sectionsSent, streamSent, bytesOf, SectionFits, Bytes}
 use Rattle.demands.specs.Loader.{AfterWrite, offered}
 use Rattle.demands.specs.Files.{Room, sectionOf, nullsOff, wanted, given, ListsAs, Wrote, Demand2b}
 use Rattle.demands.specs.Ours.{ours}

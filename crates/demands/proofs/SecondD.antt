@@ -1,5 +1,5 @@
 -- The second demand, clause (d): the byte that ends a run is taken, closes it and changes nothing. Assumes nothing.
-use mathlib.Core.Path.{_≡_, ap}
+use mathlib.Core.Path.{ap}
 use Rattle.chain.specs.declared.Chain.{Chain}
 use Rattle.demands.specs.Demand2.{Demand2d}
 use Rattle.demands.specs.Ours.{ours}

@@ -1,6 +1,5 @@
 -- The second demand, clause (f): a check stores nothing and loads no register, whatever it is fed, in any cut. Assumes nothing.
 use Prim.Native.Nat.{ℕ}
-use mathlib.Core.Bool.{false}
 use mathlib.Core.Path.{_≡_, refl, ap, sym, subst, _∙_}
 use mathlib.Core.List.{List, [], _∷_}
 use lib.Dec.{eqb}
@@ -8,22 +7,21 @@ use lib.ListN.{length}
 use borrow.Author.Tests.{eqb-true, eqb-false}
 use Rattle.chain.specs.declared.Chain.{Chain}
 use Rattle.chain.specs.declared.Made.{Made}
-use Rattle.chain.specs.Paper.{checking, writing, done, more}
+use Rattle.chain.specs.Paper.{checking, done, more}
 use Rattle.chain.specs.Set.{with·place}
 use Rattle.chain.specs.State.{feedNumber}
 use Rattle.chain.proofs.ByCases.{by-test}
-use Rattle.machine.specs.Run.{Run, run, runOf}
+use Rattle.machine.specs.Run.{run, runOf}
 use Rattle.machine.specs.declared.Fed.{Fed}
-use Rattle.machine.specs.Calls.{openedPlace, sliceOf, sliceMemory}
+use Rattle.machine.specs.Calls.{openedPlace, sliceMemory}
 use Rattle.machine.proofs.Kept.{check-cells, check-registers}
-use Rattle.machine.proofs.Slices.{slice-runs, slice-refused, fed-more, fed-over}
+use Rattle.machine.proofs.Slices.{slice-runs, slice-refused}
 use Rattle.machine.proofs.Runs.{run-lasts}
 use Rattle.machine.proofs.Stays.{run-stays}
-use Rattle.demands.specs.Loader.{AfterSlice}
 use Rattle.demands.specs.Demand2.{slices, Kept, Demand2f}
 use Rattle.demands.specs.Ours.{ours}
 use Rattle.demands.proofs.Opened.{start-done}
-use Rattle.demands.proofs.Cuts.{slices-refused, slice-goes, slice-ends, closed-refuses}
+use Rattle.demands.proofs.Cuts.{slice-goes, slice-ends, closed-refuses}
 use Rattle.demands.proofs.Seen.{fed-registers, fed-count, fed-kinds}
 
 -- a chain that takes bytes takes them to check

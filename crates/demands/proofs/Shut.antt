@@ -1,7 +1,6 @@
 -- Loaders that clause (a) of the second demand shuts out: a constant answer and refusing all, storing nothing, a made-up count.
 -- Assumes nothing.
 use Prim.Native.Nat.{ℕ, _<_}
-use mathlib.Core.Bool.{true}
 use mathlib.Core.Path.{_≡_, refl, ap, sym, _∙_}
 use mathlib.Core.List.{List, [], _∷_, _++_, append-nil}
 use native.Mathlib.Omega.{arith}
@@ -12,7 +11,7 @@ use Rattle.chain.specs.Paper.{preamble, two-preambles, writing, checking, done,
 use Rattle.chain.specs.Rules.{pick}
 use Rattle.chain.specs.Kinds.{baseOf}
 use Rattle.chain.proofs.ByCases.{by-test}
-use Rattle.demands.specs.Grammar.{Sent, Section, bytesOf, sectionsSent, streamSent}
+use Rattle.demands.specs.Grammar.{Section, bytesOf, sectionsSent, streamSent}
 use Rattle.machine.specs.Run.{Run, run}
 use Rattle.demands.specs.Loader.{Loader, AfterSlice, Idle, Mode}
 use Rattle.demands.specs.Demand2.{unlikes, Fitting, Seen, slices, joined, ran, Demand2a}

@@ -2,10 +2,10 @@
 -- windows that overlap, control bits set in the last section; as a write and as a check. By clause (a) each loads. Assumes nothing.
 use Prim.Native.Nat.{ℕ, _<_}
 use mathlib.Core.Bool.{true, false, true≢false}
-use mathlib.Core.Path.{_≡_, refl}
+use mathlib.Core.Path.{_≡_, refl, sym, subst}
 use mathlib.Core.List.{List, [], _∷_}
 use native.Mathlib.Omega.{arith}
-use lib.ListN.{length, replicate}
+use lib.ListN.{replicate, take}
 use lib.Dec.{lit<}
 use Rattle.chain.specs.declared.Chain.{Chain}
 use Rattle.chain.specs.Kinds.{sizeOf, baseOf, knownOf}
@@ -14,9 +14,9 @@ use Rattle.chain.specs.State.{badChain, unusedZero, wellFormed, illFormed, stat
 use Rattle.machine.specs.Byte.{numberOf, passedOf, advanceOf}
 use Rattle.machine.specs.Run.{addressOf, memoryOf, registersOf, missedOf, stepOf, runOf}
 use Rattle.machine.specs.Calls.{startNumber, startOf, fedOf, sliceOf, sliceMemory}
-use Rattle.demands.specs.Grammar.{Window, Section, bytesOf, streamSent}
+use Rattle.demands.specs.Grammar.{Section, SectionsFit, Bytes, bytesOf, streamSent}
 use Rattle.demands.specs.Loader.{Idle, Mode}
-use Rattle.demands.specs.Demand2.{Fitting, Loads, Reading}
+use Rattle.demands.specs.Demand2.{Fitting, Loads, Reading, ran}
 use Rattle.demands.specs.Demand3.{Clear, Whole}
 use Rattle.demands.specs.Files.{sectionOf}
 use Rattle.demands.specs.Ours.{ours}
@@ -84,3 +84,26 @@ clear-write = (refl, refl)
 pub whole-write : Whole ours 6 (bytesOf (streamSent eight 6 none (two 0x0c ∷ []))) eight (replicate 416 0)
 unfolding sizeOf baseOf knownOf badChain unusedZero wellFormed illFormed stateNumber feedNumber numberOf passedOf advanceOf addressOf memoryOf registersOf missedOf stepOf runOf startNumber startOf fedOf sliceOf sliceMemory
 whole-write = record { started = refl; number = refl; taken = refl }
+
+-- what clauses (c) and (e) suppose: one section, accepted by the first of eight devices
+abbrev one-stream : List ℕ
+one-stream = bytesOf (streamSent eight 6 (two 0x0c) [])
+
+one-small : Bytes one-stream
+one-small = (lit< tt, (lit< tt, (lit< tt, (lit< tt, (lit< tt, (lit< tt, (lit< tt, (lit< tt, (lit< tt, (lit< tt, (lit< tt, (lit< tt, (lit< tt, (lit< tt, (lit< tt, (lit< tt, (lit< tt, (lit< tt, (lit< tt, (lit< tt, (lit< tt, (lit< tt, tt))))))))))))))))))))))
+
+one-fits : SectionsFit eight 0 (two 0x0c) []
+unfolding sizeOf
+one-fits =
+    (omega arith, record { few = omega arith; fit = (record { order = omega arith; inside = omega arith; full = refl }, (record { order = omega arith; inside = omega arith; full = refl }, tt)) })
+
+pub one-accepted : ran ours writing 6 eight (replicate 416 0) [] one-stream .fed .answer .number ≡ done
+unfolding sizeOf baseOf knownOf badChain unusedZero wellFormed illFormed stateNumber feedNumber numberOf passedOf advanceOf addressOf memoryOf registersOf missedOf stepOf runOf startNumber startOf fedOf sliceOf sliceMemory
+one-accepted = refl
+
+one-taken : ran ours writing 6 eight (replicate 416 0) [] one-stream .fed .answer .taken ≡ 22
+unfolding sizeOf baseOf knownOf badChain unusedZero wellFormed illFormed stateNumber feedNumber numberOf passedOf advanceOf addressOf memoryOf registersOf missedOf stepOf runOf startNumber startOf fedOf sliceOf sliceMemory
+one-taken = refl
+
+one-reading : Reading eight 6 (take (ran ours writing 6 eight (replicate 416 0) [] one-stream .fed .answer .taken) one-stream)
+one-reading = subst (λ (n : ℕ). Reading eight 6 (take n one-stream)) (sym one-taken) (record { first = two 0x0c; others = []; fits = one-fits; bytes = refl })
