@@ -8,10 +8,10 @@ pub mod SliceTables
 pub mod ListTables
 pub mod Refused
 pub mod Demand1
+pub mod ByteLists
 pub mod loads
 pub mod files
 pub mod Demand2
 pub mod stops
-pub mod Shut
-pub mod Eager
-pub mod Readings
+pub mod Promised
+pub mod wrong

@@ -1,2 +1,3 @@
 -- Stops: what a stopped run leaves, its closing bytes, and the stream started afresh.
+pub mod ClosingCuts
 pub mod StopsRight

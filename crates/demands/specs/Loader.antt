@@ -2,7 +2,7 @@
 use Prim.Native.Nat.{ℕ, _≤_}
 use mathlib.Core.Path.{_≡_}
 use mathlib.Core.List.{List}
-use lib.ListN.{length}
+use lib.ListN.{length, take}
 use Rattle.chain.specs.declared.Chain.{Chain}
 use Rattle.chain.specs.declared.Made.{Made}
 use Rattle.chain.specs.declared.Written.{Written}
@@ -22,6 +22,10 @@ pub record AfterSlice : Type 0 where
 pub record AfterWrite : Type 0 where
   pub written : Written
   pub out : List ℕ
+
+-- the bytes that it wrote
+abbrev pub offered : AfterWrite → List ℕ
+offered w = take (w .written .length) (w .out)
 
 -- a hunt's
 pub record AfterHunt : Type 0 where

@@ -1,101 +1,92 @@
 -- Loaders that the demands shut out: ours, with one call replaced. Assumes nothing.
-use Prim.Native.Nat.{ℕ, suc, _+_, _-_}
-use mathlib.Core.Bool.{_&&_}
+use Prim.Native.Nat.{ℕ, _+_, _-_}
+use mathlib.Core.Bool.{_&&_, _||_, not}
 use mathlib.Core.List.{List, [], _∷_}
 use lib.Dec.{eqb}
-use lib.ListN.{length, replicate}
-use lib.Seq.{sets}
+use lib.ListN.{length, getD}
 use Rattle.chain.specs.declared.Chain.{Chain}
-use Rattle.chain.specs.Paper.{at·address, at·data, writing, two-preambles, done, barred, more, B4}
+use Rattle.chain.specs.declared.Place.{Place}
+use Rattle.chain.specs.Paper.{at·address, at·count, at·null, at·end-low, at·data, at·check, writing, two-preambles, done, barred, no-check, more, B4}
 use Rattle.chain.specs.Rules.{pick}
-use Rattle.chain.specs.Kinds.{baseOf}
-use Rattle.chain.specs.Set.{with·check, with·place}
+use Rattle.chain.specs.Set.{with·check, with·awaited, with·left, with·end, with·place}
 use Rattle.chain.specs.State.{feedNumber}
 use Rattle.machine.specs.Byte.{awaits}
-use Rattle.machine.specs.Run.{writes, ended, Run, run, stepOf}
+use Rattle.machine.specs.Run.{writes, addressOf, ended, Run, run, stepOf}
 use Rattle.machine.specs.Calls.{answered, fedOf}
 use Rattle.demands.specs.Loader.{Loader, AfterSlice, with·slice, with·closing, with·list}
 use Rattle.demands.specs.Ours.{ours}
 
-abbrev pub withSlice : (Chain → List ℕ → List ℕ → AfterSlice) → Loader
-withSlice f = with·slice ours f
+-- ours, with what a slice leaves altered
+abbrev pub altered : (Chain → List ℕ → List ℕ → AfterSlice → AfterSlice) → Loader
+altered f = with·slice ours (λ c m s. f c m s (ours .slice c m s))
 
 -- answers n, t and w whatever it is given, and does nothing: with n not 0 it refuses all
 abbrev pub constant : ℕ → ℕ → ℕ → Loader
-constant n t w = withSlice (λ c m s. record { fed = answered c n t w; memory = m })
+constant n t w = altered (λ c m s a. record { fed = answered c n t w; memory = m })
 
 -- answers as ours, and stores nothing
 abbrev pub idle : Loader
-idle = withSlice (λ c m s. record { fed = ours .slice c m s .fed; memory = m })
+idle = altered (λ c m s a. record { fed = a .fed; memory = m })
 
 -- makes up the bytes taken, or the mismatches, by any rule
+abbrev pub counting : (Chain → List ℕ → List ℕ → AfterSlice → ℕ) → (Chain → List ℕ → List ℕ → AfterSlice → ℕ) → Loader
+counting f g = altered (λ c m s a. record { fed = answered (a .fed .chain) (a .fed .answer .number) (f c m s a) (g c m s a); memory = a .memory })
+
 abbrev pub taking : (Chain → List ℕ → List ℕ → ℕ) → Loader
-taking f =
-    withSlice
-    (λ c m s.
-    let a = ours .slice c m s in
-    record { fed = answered (a .fed .chain) (a .fed .answer .number) (f c m s) (a .fed .answer .mismatches); memory = a .memory })
+taking f = counting (λ c m s a. f c m s) (λ c m s a. a .fed .answer .mismatches)
 
 abbrev pub missing : (Chain → List ℕ → List ℕ → ℕ) → Loader
-missing f =
-    withSlice
-    (λ c m s.
-    let a = ours .slice c m s in
-    record { fed = answered (a .fed .chain) (a .fed .answer .number) (a .fed .answer .taken) (f c m s); memory = a .memory })
+missing f = counting (λ c m s a. a .fed .answer .taken) (λ c m s a. f c m s)
 
--- stores the whole window at its first data byte and idles through the rest; the bytes it was not given yet it makes up
-abbrev pub eagerMemory : Chain → List ℕ → ℕ → List ℕ
-eagerMemory c m b =
-    pick (awaits c at·data && writes c)
-    (pick (eqb (c .place .next) (c .place .start))
-    (sets m (baseOf (c .kinds) (c .place .device) + c .place .start) (replicate (suc (c .place .end - c .place .start)) b))
-    m)
-    m
+-- where a slice ends in a refusal, takes back what that slice stored
+abbrev pub undoing : Loader
+undoing = altered (λ c m s a. record { fed = a .fed; memory = pick (eqb (a .fed .answer .number) done || eqb (a .fed .answer .number) more) (a .memory) m })
 
-abbrev pub eagerByte : Run → ℕ → Run
-eagerByte r b =
-    pick (eqb (r .number) more)
-    (run (stepOf (r .chain) (r .memory) b .chain) (eagerMemory (r .chain) (r .memory) b) (stepOf (r .chain) (r .memory) b .number))
-    r
+-- ---- another machine: what it makes of a byte of an open run, given what ours makes of it
 
-abbrev pub eagerRun : Run → List ℕ → Run
-eagerRun r [] = r
-eagerRun r (b ∷ bs) = eagerRun (eagerByte r b) bs
+abbrev pub stepping : (Chain → List ℕ → ℕ → Run → Run) → Run → List ℕ → Run
+stepping f r [] = r
+stepping f r (b ∷ bs) = stepping f (pick (eqb (r .number) more) (f (r .chain) (r .memory) b (stepOf (r .chain) (r .memory) b)) r) bs
 
-abbrev pub eager : Loader
-eager =
-    withSlice
-    (λ c m s.
-    record {
-      fed = ours .slice c m s .fed;
-      memory = pick (eqb (feedNumber c (length m)) done) (eagerRun (run c m more) s .memory) m;
-    })
+abbrev pub bent : (Chain → List ℕ → ℕ → Run → Run) → Loader
+bent f =
+    altered
+    (λ c m s a.
+    let r = stepping f (run c m more) s in
+    pick (eqb (feedNumber c (length m)) done) (record { fed = fedOf r; memory = r .memory }) a)
 
--- ---- wrong readings of document 01
+-- a run that came to another place
+abbrev pub moved : Run → Place → Run
+moved t p = run (with·place (t .chain) p) (t .memory) (t .number)
+
+-- at the first data byte of a window the memory becomes what f makes of it, the bytes not given yet made up; idle through the rest
+abbrev pub eager : (Chain → List ℕ → ℕ → List ℕ) → Loader
+eager f = bent (λ c m b t. run (t .chain) (pick (awaits c at·data && writes c && eqb (c .place .next) (c .place .start)) (f c m b) m) (t .number))
+
+-- ---- 'Easy to get wrong'
+
+-- an end taken as exclusive
+abbrev pub exclusiveEnd : Loader
+exclusiveEnd = bent (λ c m b t. pick (awaits c at·end-low) (moved t (with·end (t .chain .place) (t .chain .place .end - 1))) t)
+
+-- a plain count: FE read as 254 windows
+abbrev pub plainCount : Loader
+plainCount =
+    bent (λ c m b t. pick (awaits c at·count) (moved t (with·awaited (with·left (t .chain .place) b) (pick (eqb b 0) at·check at·null))) t)
 
 -- B4 applied to the stream that sets it: the byte after such a control byte ends the run with 6
-abbrev pub selfBarring : Run → List ℕ → Run
-selfBarring r [] = r
-selfBarring r (b ∷ bs) =
-    selfBarring
-    (pick (eqb (r .number) more)
-    (pick (awaits (r .chain) at·address && B4 (r .chain .place .control)) (run (ended (r .chain)) (r .memory) barred)
-    (stepOf (r .chain) (r .memory) b))
-    r)
-    bs
-
 abbrev pub barring : Loader
-barring =
-    withSlice
-    (λ c m s. record { fed = fedOf (selfBarring (run c m more) s); memory = selfBarring (run c m more) s .memory })
+barring = bent (λ c m b t. pick (awaits c at·address && B4 (c .place .control)) (run (ended c) m barred) t)
 
--- a check that writes: it answers as ours, and stores what a write at the same place would. (A check with B3 set is no case of demand 2:
--- number 7 refuses it)
-abbrev pub writing-chain : Chain → Chain
-writing-chain c = with·place c (with·check (c .place) writing)
-
+-- a check with B3 set goes on as a write, where ours gives 7
 abbrev pub checkWrites : Loader
-checkWrites = withSlice (λ c m s. record { fed = ours .slice c m s .fed; memory = ours .slice (writing-chain c) m s .memory })
+checkWrites = bent (λ c m b t. pick (eqb (t .number) no-check) (stepOf (with·place c (with·check (c .place) writing)) m b) t)
+
+-- of overlapping windows the earlier wins: a cell that is not zero is stored no more
+abbrev pub earlierWins : Loader
+earlierWins = bent (λ c m b t. pick (awaits c at·data && writes c && not (eqb (getD m (addressOf c) 0) 0)) (run (t .chain) m (t .number)) t)
+
+-- ---- other calls
 
 -- closing one byte short
 abbrev pub shortClosing : Loader

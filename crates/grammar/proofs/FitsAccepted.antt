@@ -316,19 +316,19 @@ module _ (c : Chain) (g : List ℕ) (p : Place) (check d b : ℕ) (k : p .check 
       refl (rw next-device refl)
 
 -- the first device of those met
-first-lets : (check : ℕ) (g : List ℕ) (d : ℕ) (s : Section) (ss : List Section) → AllLet check g d s ss → Lets check (getD g d 0) (s .control)
+pub first-lets : (check : ℕ) (g : List ℕ) (d : ℕ) (s : Section) (ss : List Section) → AllLet check g d s ss → Lets check (getD g d 0) (s .control)
 first-lets check g d s [] h = h
 first-lets check g d s (t ∷ ts) h = h .0
 
 -- registers alike from device d on
-lets-alike : (check : ℕ) (g h : List ℕ) (d : ℕ) (s : Section) (ss : List Section) → ((e : ℕ) → d ≤ e → getD h e 0 ≡ getD g e 0)
+pub lets-alike : (check : ℕ) (g h : List ℕ) (d : ℕ) (s : Section) (ss : List Section) → ((e : ℕ) → d ≤ e → getD h e 0 ≡ getD g e 0)
     → AllLet check g d s ss → AllLet check h d s ss
 lets-alike check g h d s [] q l = subst (λ (x : ℕ). Lets check x (s .control)) (sym (q d (omega arith))) l
 lets-alike check g h d s (t ∷ ts) q l =
     (subst (λ (x : ℕ). Lets check x (s .control)) (sym (q d (omega arith))) (l .0), lets-alike check g h (suc d) t ts (λ e n. q e (omega arith)) (l .1))
 
 -- a control byte that is loaded leaves the registers of the devices after it
-loaded-alike : (q : Bool) (g : List ℕ) (d b e : ℕ) → suc d ≤ e → getD (pick q (set g d b) g) e 0 ≡ getD g e 0
+pub loaded-alike : (q : Bool) (g : List ℕ) (d b e : ℕ) → suc d ≤ e → getD (pick q (set g d b) g) e 0 ≡ getD g e 0
 loaded-alike true g d b e l = getD-set-other g d e b 0 (λ z. omega arith)
 loaded-alike false g d b e l = refl
 

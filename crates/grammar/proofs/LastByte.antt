@@ -8,13 +8,13 @@ use lib.ListN.{length, getD, take, drop, length-set, take-append-drop}
 use lib.Seq.{getD-set-same, getD-set-other, ext-getD}
 use borrow.Author.Tests.{eqb-true, eqb-false}
 use Rattle.chain.proofs.ByCases.{by-test}
-use Rattle.grammar.specs.Sent.{Sent, Store, Slot, nowhere, index, slot, after, lastTo}
+use Rattle.grammar.specs.Sent.{Sent, Store, Slot, no-slot, index, slot, after, lastTo}
 use Rattle.grammar.proofs.Walk.{put, putAll}
 
 -- ---- as many places as before
 
 pub length-put : (t : Slot) (b : ℕ) (l : List ℕ) → length (put t b l) ≡ length l
-length-put nowhere b l = refl
+length-put no-slot b l = refl
 length-put (index i) b l = length-set l i b
 
 pub length-putAll : (k : Store) (xs : List Sent) (l : List ℕ) → length (putAll k xs l) ≡ length l
@@ -24,7 +24,7 @@ length-putAll k (x ∷ xs) l = length-putAll k xs (put (slot k (x .to)) (x .byte
 -- ---- each place holds the last byte sent to it, or its old value
 
 pub getD-put : (t : Slot) (b : ℕ) (l : List ℕ) (i : ℕ) → i < length l → getD (put t b l) i 0 ≡ after t b i (getD l i 0)
-getD-put nowhere b l i h = refl
+getD-put no-slot b l i h = refl
 getD-put (index j) b l i h =
     by-test (eqb i j)
     (λ e. rw (e, eqb-true i j e) (getD-set-same l j b 0 (omega (arith, eqb-true i j e))))
@@ -44,7 +44,7 @@ pub data Reach (f : ℕ → ℕ) : Type 0 where
   missed : ((x : ℕ) → f x ≡ x) → Reach f
 
 reach-one : (t : Slot) (b i : ℕ) → Reach (after t b i)
-reach-one nowhere b i = missed (λ x. refl)
+reach-one no-slot b i = missed (λ x. refl)
 reach-one (index j) b i = by-test (eqb i j) (λ e. reached (λ x y. rw e)) (λ e. missed (λ x. rw e))
 
 reach-both : (f g : ℕ → ℕ) → Reach f → Reach g → Reach (λ x. g (f x))

@@ -10,9 +10,11 @@ pub mod ReadWindows
 pub mod Parse
 pub mod WalkMeant
 pub mod FitsAccepted
+pub mod LetIn
 pub mod SameWay
 pub mod NothingBarred
 pub mod Restart
+pub mod BytesStay
 pub mod Leaves
 pub mod SectionBytes
 pub mod FromTables

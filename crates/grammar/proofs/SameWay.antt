@@ -13,7 +13,7 @@ use Rattle.chain.specs.Rules.{pick, Rule, _gives_, firstOf}
 use Rattle.chain.proofs.ByCases.{by-test}
 use Rattle.machine.specs.Byte.{awaits, checks, begins, nextDevice, registerBegun, byteRules, numberOf}
 use Rattle.machine.specs.Run.{writes, addressOf, registersOf, missedOf, wentOn}
-use Rattle.grammar.specs.Sent.{Target, Sent, memory, registers, Slot, nowhere, index, slot, after}
+use Rattle.grammar.specs.Sent.{Target, Sent, memory, registers, Slot, no-slot, index, slot, after}
 use Rattle.grammar.specs.Stores.{aim, walkOf}
 use Rattle.grammar.proofs.Walk.{walk-on, walk-over, put, byte-stores, byte-changes}
 use Rattle.grammar.proofs.Accepted.{Accepted, last, next, done-over}
@@ -45,7 +45,7 @@ looser-second true b x y f = f
 looser-second false b x y f = λ h. h
 
 looser-after : (t : Slot) (b i x y : ℕ) → Looser x y → Looser (after t b i x) (after t b i y)
-looser-after nowhere b i x y f = f
+looser-after no-slot b i x y f = f
 looser-after (index j) b i x y f = looser-first (eqb i j) b x y f
 
 pub freer-put : (t : Slot) (b : ℕ) (g h : List ℕ) → length h ≡ length g → Freer g h → Freer (put t b g) (put t b h)

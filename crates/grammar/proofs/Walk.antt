@@ -17,7 +17,7 @@ use Rattle.machine.proofs.Blind.{still, went-still}
 use Rattle.machine.proofs.Frame.{advance-frame}
 use Rattle.machine.proofs.Kept.{unwritten-run, unloaded-run}
 use Rattle.machine.proofs.Runs.{run-went, run-ended}
-use Rattle.grammar.specs.Sent.{Target, framing, register, cell, Sent, frame, Store, memory, registers, Slot, nowhere, index, slot}
+use Rattle.grammar.specs.Sent.{Target, framing, register, cell, Sent, frame, Store, memory, registers, Slot, no-slot, index, slot}
 use Rattle.grammar.specs.Stores.{aim, walkOf, changes, storedOf, putOf, putsIn, putsOf, putInto}
 
 -- ---- one byte of the walk
@@ -61,7 +61,7 @@ walk-take (suc k) (b ∷ bs) c =
 
 -- a byte into a slot of a store, and bytes one after another
 abbrev pub put : Slot → ℕ → List ℕ → List ℕ
-put nowhere b l = l
+put no-slot b l = l
 put (index i) b l = set l i b
 
 abbrev pub putAll : Store → List Sent → List ℕ → List ℕ

@@ -31,20 +31,20 @@ pub data Store : Type 0 where
 
 -- the place in a store that a byte is meant for, if any
 pub data Slot : Type 0 where
-  nowhere : Slot
+  no-slot : Slot
   index : ℕ → Slot
 
 abbrev pub slot : Store → Target → Slot
-slot memory framing = nowhere
-slot memory (register d) = nowhere
+slot memory framing = no-slot
+slot memory (register d) = no-slot
 slot memory (cell i) = index i
-slot registers framing = nowhere
+slot registers framing = no-slot
 slot registers (register d) = index d
-slot registers (cell i) = nowhere
+slot registers (cell i) = no-slot
 
 -- what stands at i after byte b went to a slot
 abbrev pub after : Slot → ℕ → ℕ → ℕ → ℕ
-after nowhere b i old = old
+after no-slot b i old = old
 after (index j) b i old = pick (eqb i j) b old
 
 -- the last byte sent to place i of a store, or its old value

@@ -33,7 +33,7 @@ not-both : {P : Type 0} (b : Bool) → b ≡ true → b ≡ false → P
 not-both b t f = absurd (let z : _≡_ {A = ℕ} 0 1 = cc in omega arith)
 
 -- where it begins, eight bits stand
-begins-fits : (s : List ℕ) (p : ℕ) → beginsAt s p ≡ true → p + 8 ≤ 8 * length s
+pub begins-fits : (s : List ℕ) (p : ℕ) → beginsAt s p ≡ true → p + 8 ≤ 8 * length s
 unfolding beginsAt
 begins-fits s p e =
     let t : (p + 8 ≤ 8 * length s) × (byteAt s p ≡ preamble) = says (search reads) e in t .0

@@ -1,6 +1,7 @@
 pub mod Windows
 pub mod Found
 pub mod Bytes
+pub mod CutShort
 pub mod Answers
 pub mod HuntedOut
 pub mod Framed

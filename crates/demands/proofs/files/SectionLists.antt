@@ -24,7 +24,7 @@ use Rattle.grammar.specs.Sent.{bytesOf}
 use Rattle.grammar.specs.Fits.{Fits, AllFit, SectionFits}
 use Rattle.demands.specs.Loader.{AfterList, Mode}
 use Rattle.grammar.specs.Tables.{starts, ends, cells, offsets}
-use Rattle.demands.specs.Files.{gathered, Lists}
+use Rattle.demands.specs.Files.{gathered, ListsAs}
 use Rattle.demands.specs.Ours.{ours}
 use Rattle.grammar.proofs.SectionBytes.{windowBytes, windowsBytes, sectionBytes, leadBytes, stream-bytes, starts-many, ends-many, offsets-many}
 
@@ -254,14 +254,13 @@ module _ (kind mode p : ℕ) (s : List ℕ) (x : Section) (t : ℕ) (pa : preamb
         }
     list-is = rw (answer-is, listing-is, k .windows .starts-are, k .windows .ends-are, pa, offsets-are)
 
-    stood-lists : Lists mode s t x (ours .list kind mode s ts te to)
-    unfolding preambleAt
+    stood-lists : ListsAs mode s t x (ours .list kind mode s ts te to)
     stood-lists =
         let n = length (x .windows) in
         let sa : take n (sets ts 0 (starts (x .windows))) ≡ starts (x .windows) = front-is (starts (x .windows)) ts n (starts-many (x .windows)) a in
         let ea : take n (sets te 0 (ends (x .windows))) ≡ ends (x .windows) = front-is (ends (x .windows)) te n (ends-many (x .windows)) b in
         let oa : take n (sets to 0 (offsets 6 (x .windows))) ≡ offsets 6 (x .windows) = front-is (offsets 6 (x .windows)) to n (offsets-many 6 (x .windows)) d in
-        subst (λ (r : AfterList). Lists mode s t x r) (sym list-is)
+        subst (λ (r : AfterList). ListsAs mode s t x r) (sym list-is)
         (record {
           number = refl;
           taken = refl;
@@ -288,7 +287,7 @@ module _ (kind mode : ℕ) (c : Chain) (x : Section) (rest : List ℕ) (f : Sect
 
   -- whatever tables of room enough are lent, and whatever follows the stream
   pub listed : (ts te to : List ℕ) → length (x .windows) ≤ length ts → length (x .windows) ≤ length te → length (x .windows) ≤ length to
-      → Lists mode (bytesOf (streamSent c mode x []) ++ rest) (length (bytesOf (streamSent c mode x []))) x
+      → ListsAs mode (bytesOf (streamSent c mode x []) ++ rest) (length (bytesOf (streamSent c mode x []))) x
       (ours .list kind mode (bytesOf (streamSent c mode x []) ++ rest) ts te to)
   listed ts te to a b d =
       let t : ℕ = length (bytesOf (streamSent c mode x [])) in

@@ -4,7 +4,6 @@ use mathlib.Core.Path.{_≡_, refl, sym, _∙_}
 use mathlib.Core.List.{List, [], _∷_}
 use native.Mathlib.Omega.{arith}
 use lib.ListN.{length, length-append}
-use Rattle.chain.specs.declared.Chain.{Chain}
 use Rattle.chain.specs.Paper.{no-windows, done}
 use Rattle.chain.specs.Kinds.{sizeOf, baseOf}
 use Rattle.writer.specs.Stream.{streamOf}
@@ -13,8 +12,7 @@ use Rattle.writer.proofs.Accepted.{Within, accepts}
 use Rattle.writer.proofs.Lengths.{front}
 use Rattle.grammar.specs.Stream.{Window, Section}
 use Rattle.grammar.specs.Fits.{AllFit, SectionFits}
-use Rattle.demands.specs.Loader.{AfterWrite, Mode}
-use Rattle.demands.specs.Demand3.{offered}
+use Rattle.demands.specs.Loader.{AfterWrite, Mode, offered}
 use Rattle.grammar.specs.Tables.{starts, ends, cells, nullsOff}
 use Rattle.demands.specs.Files.{wanted}
 use Rattle.demands.specs.Ours.{ours}
@@ -35,17 +33,17 @@ cells-sum size (w ∷ ws) f = omega (arith, f .0 .full, cells-sum size ws (f .1)
 abbrev pub addressOf : Section → List ℕ
 addressOf x = x .address0 ∷ x .address1 ∷ x .address2 ∷ []
 
-pub stream-written : (c : Chain) (size mode : ℕ) (x : Section) → AllFit size (x .windows)
-    → streamOf mode (x .control) (addressOf x) (starts (x .windows)) (ends (x .windows)) (cells (x .windows)) ≡ wanted c mode (nullsOff x)
+pub stream-written : (size mode : ℕ) (x : Section) → AllFit size (x .windows)
+    → streamOf mode (x .control) (addressOf x) (starts (x .windows)) (ends (x .windows)) (cells (x .windows)) ≡ wanted mode (nullsOff x)
 unfolding streamOf baseOf
-stream-written c size mode x f = rw (from-tables size (x .windows) f)
+stream-written size mode x f = rw (from-tables size (x .windows) f)
 
 -- the writer's answer and output
-module _ (kind mode : ℕ) (x : Section) (out : List ℕ) (c : Chain) (f : SectionFits (sizeOf kind) x) where
+module _ (kind mode : ℕ) (x : Section) (out : List ℕ) (f : SectionFits (sizeOf kind) x) where
   abbrev pub wrote : AfterWrite
   wrote = ours .write kind mode (x .control) (addressOf x) (starts (x .windows)) (ends (x .windows)) (cells (x .windows)) out
 
-  pub wrote-number : (sizeOf kind ≡ 0 → ⊥) → Mode mode → length (wanted c mode (nullsOff x)) ≤ length out → wrote .written .number ≡ done
+  pub wrote-number : (sizeOf kind ≡ 0 → ⊥) → Mode mode → length (wanted mode (nullsOff x)) ≤ length out → wrote .written .number ≡ done
   unfolding writeNumber
   wrote-number known o room =
       let few : length (x .windows) ≤ no-windows = f .few in
@@ -61,11 +59,11 @@ module _ (kind mode : ℕ) (x : Section) (out : List ℕ) (c : Chain) (f : Secti
         few = omega arith;
         inside = within (sizeOf kind) (x .windows) (f .fit);
         all = cells-sum (sizeOf kind) (x .windows) (f .fit);
-        fits = rw (stream-written c (sizeOf kind) mode x (f .fit)) room;
+        fits = rw (stream-written (sizeOf kind) mode x (f .fit)) room;
       })
 
-  pub wrote-bytes : wrote .written .number ≡ done → offered wrote ≡ wanted c mode (nullsOff x)
+  pub wrote-bytes : wrote .written .number ≡ done → offered wrote ≡ wanted mode (nullsOff x)
   wrote-bytes z =
       front kind mode (x .control) (addressOf x) (starts (x .windows)) (ends (x .windows)) (cells (x .windows)) out (wrote .written) (wrote .out)
       (record { answer = refl; output = refl }) z .1
-      ∙ stream-written c (sizeOf kind) mode x (f .fit)
+      ∙ stream-written (sizeOf kind) mode x (f .fit)

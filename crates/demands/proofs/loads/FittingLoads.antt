@@ -4,8 +4,7 @@ use Prim.Native.Nat.{ℕ, _+_, _<_, _≤_, _^_}
 use mathlib.Core.Path.{_≡_, refl, ap, sym, subst, _∙_}
 use mathlib.Core.List.{List, _∷_, _++_, append-assoc}
 use native.Mathlib.Omega.{arith}
-use lib.ListN.{length, take, length-append, length-take}
-use lib.Seq.{take-append-seam}
+use lib.ListN.{length, take, length-take}
 use Rattle.chain.specs.declared.Chain.{Chain}
 use Rattle.chain.specs.Paper.{most-devices, done, more}
 use Rattle.chain.specs.State.{feedNumber}
@@ -26,6 +25,7 @@ use Rattle.grammar.proofs.FitsAccepted.{stream-accepted}
 use Rattle.grammar.proofs.WalkMeant.{walk-meant}
 use Rattle.grammar.proofs.StartOpens.{count-sound}
 use Rattle.demands.proofs.loads.RunSeen.{seen}
+use Rattle.demands.proofs.loads.Cuts.{front-open}
 use Rattle.demands.proofs.loads.LoadRuns.{begun, left, slice-is, begun-feeds, started, open-front, slices-join}
 use Rattle.chain.proofs.Bytes.{bytes-front, bytes-take}
 use Rattle.grammar.proofs.StreamShort.{stream-short, bytes-long}
@@ -80,12 +80,7 @@ module _ (c : Chain) (m : List ℕ) (check mode : ℕ) (s : Section) (ss : List 
   cut-whole : (ps : List (List ℕ)) (b : ℕ) (last rest : List ℕ) → joined ps ++ (b ∷ last) ≡ bs
       → Seen check c m xs done (slices ours o m ps ((b ∷ last) ++ rest))
   cut-whole ps b last rest e =
-      let n = length (joined ps) in
-      let t : take n bs ≡ joined ps = ap (take n) (sym e) ∙ take-append-seam (joined ps) (b ∷ last) in
-      let l : n < length bs = omega (arith, ap length e, length-append (joined ps) (b ∷ last)) in
-      let open-before : runOf (run o m more) (joined ps) .number ≡ more =
-      ap (λ (l : List ℕ). runOf (run o m more) l .number) (sym t) ∙ accepted-open n bs o m accepted l
-      in
+      let open-before = front-open o m bs (joined ps) b last e (λ k l. accepted-open k bs o m accepted l) in
       let small = bytes-front (joined ps) (b ∷ last) (subst Bytes (sym e) (f .bytes)) in
       let all : joined ps ++ ((b ∷ last) ++ rest) ≡ bs ++ rest = sym (append-assoc (joined ps) (b ∷ last) rest) ∙ ap (λ (l : List ℕ). l ++ rest) e in
       let j = slices-join ps o m ((b ∷ last) ++ rest) sound (i .registers) small open-before ∙ ap (λ (l : List ℕ). ours .slice o m l) all in

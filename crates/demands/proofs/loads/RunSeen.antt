@@ -19,12 +19,12 @@ use Rattle.grammar.proofs.Leaves.{leaves}
 use Rattle.demands.specs.Demand2.{Seen}
 
 -- an answer's chain has the run's devices and registers, whether its place was closed or not
-record Same (c d : Chain) : Type 0 where
-  count : d .count ≡ c .count
-  kinds : d .kinds ≡ c .kinds
-  registers : d .registers ≡ c .registers
+pub record Same (c d : Chain) : Type 0 where
+  pub count : d .count ≡ c .count
+  pub kinds : d .kinds ≡ c .kinds
+  pub registers : d .registers ≡ c .registers
 
-fed-same : (r : Run) → Same (r .chain) (fedOf r .chain)
+pub fed-same : (r : Run) → Same (r .chain) (fedOf r .chain)
 unfolding fedOf
 fed-same r =
     by-test (eqb (r .number) more) (λ e. rw e (record { count = refl; kinds = refl; registers = refl }))

@@ -4,25 +4,21 @@ use Prim.Native.Nat.{ℕ, _+_, _<_, _≤_, _^_}
 use mathlib.Core.Path.{_≡_, refl, ap, sym, subst, _∙_}
 use mathlib.Core.List.{List, _++_}
 use native.Mathlib.Omega.{arith}
-use lib.ListN.{length, take, drop, length-take}
-use lib.Seq.{take-append-seam}
-use borrow.Author.Tests.{eq-eqb, ne-eqb}
+use lib.ListN.{length, take, length-take}
+use borrow.Author.Tests.{ne-eqb}
 use Rattle.chain.specs.declared.Chain.{Chain}
 use Rattle.chain.specs.declared.Made.{Made}
 use Rattle.chain.specs.Paper.{closed, writing, most-devices, done, more}
 use Rattle.chain.specs.Bytes.{Bytes}
-use Rattle.chain.specs.Kinds.{sizeHere}
 use Rattle.chain.specs.Set.{with·place, closedPlace}
 use Rattle.chain.specs.State.{stateNumber, feedNumber}
 use Rattle.chain.proofs.Bytes.{bytes-front, bytes-take}
-use Rattle.chain.proofs.Sound.{feed-is-open}
 use Rattle.machine.specs.Run.{Run, run, runOf}
 use Rattle.machine.specs.Calls.{answered, fedOf}
 use Rattle.machine.proofs.Keeps.{run-open}
 use Rattle.machine.proofs.Runs.{run-lasts}
 use Rattle.closing.specs.Closing.{closingBytes}
-use Rattle.closing.specs.Calls.{writtenNumber}
-use Rattle.closing.proofs.Closes.{closes, room-enough}
+use Rattle.closing.proofs.Closes.{closes}
 use Rattle.grammar.specs.Fits.{Reading, meant, Clear}
 use Rattle.grammar.specs.Stores.{walkOf}
 use Rattle.grammar.proofs.Walk.{walk-take}
@@ -30,35 +26,18 @@ use Rattle.grammar.proofs.Accepted.{Accepted, accepted-done, accepted-open, acc
 use Rattle.grammar.proofs.WalkMeant.{reading, walk-meant}
 use Rattle.grammar.proofs.StreamShort.{stream-short}
 use Rattle.grammar.proofs.NothingBarred.{unbarred-stream}
+use Rattle.grammar.specs.Sent.{memory, registers}
+use Rattle.grammar.proofs.BytesStay.{bytes-stay}
 use Rattle.grammar.proofs.Restart.{Restarted, restart}
 use Rattle.chain.proofs.Sound.{feed-closed}
 use Rattle.grammar.proofs.StartOpens.{count-sound}
 use Rattle.demands.specs.Loader.{AfterSlice, Idle, Mode}
 use Rattle.demands.specs.Demand2.{Seen, slices, joined}
-use Rattle.demands.specs.Demand3.{load, Whole, offered, Closes, Stopped, Demand3}
+use Rattle.demands.specs.Demand3.{load, Whole, Shut, Closes, Stopped, Demand3}
 use Rattle.demands.specs.Ours.{ours}
 use Rattle.demands.proofs.loads.LoadRuns.{begun, left, slice-is, begun-feeds, started, load-is, open-front, slices-join}
 use Rattle.demands.proofs.loads.RunSeen.{seen}
-
--- ---- the closing call
-
--- the bytes cs end the open run of s, at exactly their last, and change no cell and no register
-record Shuts (s : Chain) (m cs : List ℕ) : Type 0 where
-  ends : runOf (run s m more) cs .number ≡ more → ⊥
-  late : (j : ℕ) → j < length cs → runOf (run s m more) (take j cs) .number ≡ more
-  cells : runOf (run s m more) cs .memory ≡ m
-  regs : runOf (run s m more) cs .chain .registers ≡ s .registers
-
-module _ (s : Chain) (m : List ℕ) (eight : length (s .kinds) ≡ 8) (sound : feedNumber s (length m) ≡ done) where
-  -- where it answers 0, what it offers closes the run
-  shuts : (out : List ℕ) → ours .closing s m out .written .number ≡ done → Shuts s m (offered (ours .closing s m out))
-  shuts out e =
-      let c = closes s m eight (feed-is-open s (length m) sound) in
-      rw (eq-eqb (writtenNumber s m (length out)) done e, take-append-seam (closingBytes s m) (drop (length (closingBytes s m)) out))
-      (record { ends = λ e. c .over (sym (c .number) ∙ e); late = c .late; cells = c .memory; regs = c .registers })
-
-  room : (out : List ℕ) → sizeHere s + 3 ≤ length out → ours .closing s m out .written .number ≡ done
-  room out e = room-enough s m (length out) eight (feed-is-open s (length m) sound) e
+use Rattle.demands.proofs.stops.ClosingCuts.{Open, Shuts, offers, shuts, room, closing-cut, closing-part, closing-some}
 
 -- ---- what a slice answers, by whether its run is over
 
@@ -145,8 +124,16 @@ module _ (c : Chain) (m : List ℕ) (mode : ℕ) (bs : List ℕ) (idle : Idle c 
     stop-feeds : feedNumber (stop .chain) (length (stop .memory)) ≡ done
     stop-feeds = run-open o m (take j bs) (bytes-take j bs small) (idle .registers) feeds stop-more
 
-    stop-eight : length (stop .chain .kinds) ≡ 8
-    stop-eight = ap length (run-lasts (take j bs) (run o m more) .kinds) ∙ idle .kinds
+    stop-open : Open (stop .chain) (stop .memory)
+    stop-open =
+        let n = run-lasts (take j bs) (run o m more) in
+        record {
+          kinds = ap length (n .kinds) ∙ idle .kinds;
+          registers = n .registers ∙ idle .registers;
+          register-bytes = bytes-stay registers (take j bs) o m refl (bytes-take j bs small) (idle .register-bytes);
+          memory-bytes = bytes-stay memory (take j bs) o m refl (bytes-take j bs small) (idle .memory-bytes);
+          sound = stop-feeds;
+        }
 
     stop-seen : Seen writing c m (take j (meant x)) more (going stop)
     stop-seen =
@@ -167,37 +154,48 @@ module _ (c : Chain) (m : List ℕ) (mode : ℕ) (bs : List ℕ) (idle : Idle c 
         restart c shut mode m bs j (meant x) accepted walk (unbarred-stream c mode (x .first) (x .others) clear) (n .count) (n .kinds) refl
 
     -- closing bytes, and the stream afresh
-    closes-with : (cs : List ℕ) → Shuts (stop .chain) (stop .memory) cs
-        → Closes ours mode bs (going stop) cs (ours .slice (stop .chain) (stop .memory) cs) (load ours mode c m bs)
-    closes-with cs y =
+    abbrev cs : List ℕ
+    cs = closingBytes (stop .chain) (stop .memory)
+
+    shuts-all : Shut ours mode bs (load ours mode c m bs) (going stop) (ours .slice (stop .chain) (stop .memory) cs)
+    shuts-all =
+        let y = shuts (stop .chain) (stop .memory) stop-open in
         let fresh = load-over shut (stop .memory) mode shut-sound refl k bs (again .accepted) in
         let unbroken = load-over c m mode (idle .sound) (idle .closed-place) k bs accepted in
         let all = whole-taken c m mode (idle .sound) (idle .closed-place) k bs w in
-        subst (λ (t : AfterSlice). Closes ours mode bs (going stop) cs t (load ours mode c m bs))
+        subst (λ (t : AfterSlice). Shut ours mode bs (load ours mode c m bs) (going stop) t)
         (sym (slice-shut (stop .chain) (stop .memory) cs stop-feeds y))
         (record {
           ends = y .ends;
-          late = λ i g. ap (λ (a : AfterSlice). a .fed .answer .number) (slice-is (stop .chain) (stop .memory) (take i cs) stop-feeds ∙ left-going _ (y .late i g));
-          cells-kept = refl;
-          registers-kept = refl;
+          shut = refl;
+          kept = record { cells = refl; registers = refl; count = refl; kinds = refl };
           again = load-whole shut (stop .memory) mode shut-sound refl k bs (again .accepted) (again .taken ∙ all);
           again-cells = ap (λ (t : AfterSlice). t .memory) fresh ∙ again .cells ∙ sym (ap (λ (t : AfterSlice). t .memory) unbroken);
           again-registers = ap (λ (t : AfterSlice). t .fed .chain .registers) fresh ∙ again .regs
               ∙ sym (ap (λ (t : AfterSlice). t .fed .chain .registers) unbroken);
         })
 
+    closes-all : Closes ours mode bs (load ours mode c m bs) (going stop) cs
+    closes-all =
+        record {
+          some = closing-some (stop .chain) (stop .memory) stop-open;
+          late = λ i g ps last e.
+              ap (λ (a : AfterSlice). a .fed .answer .number)
+              (closing-part (stop .chain) (stop .memory) stop-open i g ps last e ∙ slice-is (stop .chain) (stop .memory) (take i cs) stop-feeds
+              ∙ left-going _ (shuts (stop .chain) (stop .memory) stop-open .late i g));
+          shuts = λ ps b last e.
+              subst (λ (t : AfterSlice). Shut ours mode bs (load ours mode c m bs) (going stop) t)
+              (sym (closing-cut (stop .chain) (stop .memory) stop-open ps b last e)) shuts-all;
+        }
+
     stopped : Stopped ours mode bs c m (take j (meant x)) (going stop)
     stopped =
         let s = stop-seen in
         record {
-          runs = refl;
-          taken = s .taken;
-          cells = s .cells;
-          cells-many = s .cells-many;
-          regs = s .regs;
-          regs-many = s .regs-many;
-          room = λ out g. room (stop .chain) (stop .memory) stop-eight stop-feeds out (rw (s .kinds) g);
-          closes = λ out g. closes-with (offered (ours .closing (stop .chain) (stop .memory) out)) (shuts (stop .chain) (stop .memory) stop-eight stop-feeds out g);
+          seen = s;
+          room = λ out g. room (stop .chain) (stop .memory) out stop-open (rw (s .kinds) g);
+          closes = λ out g.
+              subst (λ (l : List ℕ). Closes ours mode bs (load ours mode c m bs) (going stop) l) (sym (offers (stop .chain) (stop .memory) out g)) closes-all;
         }
 
     -- slices that leave the run open are one slice

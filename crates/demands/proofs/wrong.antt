@@ -1,0 +1,4 @@
+-- Wrong loaders: each is shut out by a theorem.
+pub mod Shut
+pub mod Eager
+pub mod Readings
