@@ -2,3 +2,4 @@
 pub mod Shut
 pub mod Eager
 pub mod Readings
+pub mod RefusedChecks

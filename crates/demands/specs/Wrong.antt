@@ -42,6 +42,10 @@ missing f = counting (λ c m s a. a .fed .answer .taken) (λ c m s a. f c m s)
 abbrev pub undoing : Loader
 undoing = altered (λ c m s a. record { fed = a .fed; memory = pick (eqb (a .fed .answer .number) done || eqb (a .fed .answer .number) more) (a .memory) m })
 
+-- where a check would be refused, answers, stores and leaves what f says
+abbrev pub careless : (Chain → List ℕ → List ℕ → AfterSlice) → Loader
+careless f = altered (λ c m s a. pick (eqb (a .fed .answer .number) done || eqb (a .fed .answer .number) more || writes c) a (f c m s))
+
 -- ---- another machine: what it makes of a byte of an open run, given what ours makes of it
 
 abbrev pub stepping : (Chain → List ℕ → ℕ → Run → Run) → Run → List ℕ → Run
