@@ -8,7 +8,7 @@ use lib.Seq.{sets}
 use Rattle.chain.specs.declared.Chain.{Chain}
 use Rattle.chain.specs.Paper.{done}
 use Rattle.chain.specs.Kinds.{sizeOf}
-use Rattle.chain.specs.Calls.{newOf}
+use Rattle.chain.specs.Calls.{newOf, resetOf, resetMemory}
 use Rattle.hunt.specs.Hunt.{foundAt}
 use Rattle.demands.specs.Loader.{AfterSlice}
 use Rattle.demands.specs.Demand3.{load}
@@ -23,8 +23,15 @@ pub data Case : Type 0 where
   -- bytes, the position that the hunt finds, and the bytes that it writes
   hunts : List ℕ → ℕ → List ℕ → Case
 
+-- one device of that kind, its cells set; and what a reset makes of both
+abbrev pub made : ℕ → Chain
+made kind = newOf 1 (kind ∷ replicate 7 0) (sizeOf kind) .chain
+
 abbrev pub fresh : ℕ → Chain
-fresh kind = newOf 1 (kind ∷ replicate 7 0) (sizeOf kind) .chain
+fresh kind = resetOf (made kind) (sizeOf kind) .chain
+
+abbrev pub wiped : ℕ → List ℕ
+wiped kind = resetMemory (made kind) (replicate (sizeOf kind) 0xee)
 
 abbrev pub same : List ℕ → List ℕ → Bool
 same [] [] = true
@@ -37,7 +44,7 @@ loadAll a [] = a
 loadAll a (s ∷ ss) = loadAll (load ours 1 (a .fed .chain) (a .memory) s) ss
 
 abbrev pub before : AfterSlice
-before = record { fed = record { chain = fresh 0; answer = record { number = done; taken = 0; mismatches = 0 } }; memory = replicate 52 0 }
+before = record { fed = record { chain = fresh 0; answer = record { number = done; taken = 0; mismatches = 0 } }; memory = wiped 0 }
 
 -- an output of n bytes, none of them zero: what is not written shows
 abbrev pub lent : ℕ → List ℕ
@@ -52,7 +59,7 @@ holds (loads streams number taken memory register) =
     && same (a .memory) memory
     && same (a .fed .chain .registers) (register ∷ replicate 7 0)
 holds (closes kind s k bytes) =
-    let a = load ours 1 (fresh kind) (replicate (sizeOf kind) 0) (take k s) in
+    let a = load ours 1 (fresh kind) (wiped kind) (take k s) in
     let w = ours .closing (a .fed .chain) (a .memory) (lent 9) in
     eqb (w .written .number) done && eqb (w .written .length) (length bytes) && same (w .out) (sets (lent 9) 0 bytes)
 holds (hunts s p bytes) =

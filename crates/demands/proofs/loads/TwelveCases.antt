@@ -1,7 +1,7 @@
 -- The twelve cases hold, by computation. Assumes nothing.
 use Rattle.chain.specs.Kinds.{sizeOf, baseOf, knownOf}
 use Rattle.chain.specs.State.{badChain, unusedZero, wellFormed, illFormed, stateNumber, feedNumber}
-use Rattle.chain.specs.Calls.{firstOnly, chainNumber, newOf}
+use Rattle.chain.specs.Calls.{firstOnly, chainNumber, newOf, resetOf, resetMemory}
 use Rattle.machine.specs.Byte.{numberOf, passedOf, advanceOf}
 use Rattle.machine.specs.Run.{addressOf, memoryOf, registersOf, missedOf, stepOf, runOf}
 use Rattle.machine.specs.Calls.{startNumber, startOf, fedOf, sliceOf, sliceMemory}
@@ -12,5 +12,5 @@ use Rattle.hunt.specs.Hunt.{beginsAt, firstFrom, foundAt, huntedBytes, huntNumb
 use Rattle.demands.specs.Cases.{table, All}
 
 pub twelve : All 1 table
-unfolding sizeOf baseOf knownOf badChain unusedZero wellFormed illFormed stateNumber feedNumber firstOnly chainNumber newOf numberOf passedOf advanceOf addressOf memoryOf registersOf missedOf stepOf runOf startNumber startOf fedOf sliceOf sliceMemory closingBytes writtenNumber bitAt bitsFrom byteAt bytesFrom wholeFrom beginsAt firstFrom foundAt huntedBytes huntNumber huntOf huntOut
+unfolding sizeOf baseOf knownOf badChain unusedZero wellFormed illFormed stateNumber feedNumber firstOnly chainNumber newOf resetOf resetMemory numberOf passedOf advanceOf addressOf memoryOf registersOf missedOf stepOf runOf startNumber startOf fedOf sliceOf sliceMemory closingBytes writtenNumber bitAt bitsFrom byteAt bytesFrom wholeFrom beginsAt firstFrom foundAt huntedBytes huntNumber huntOf huntOut
 twelve = tt
