@@ -1,13 +1,13 @@
 -- The first demand holds. Assumes nothing.
 use Rattle.demands.specs.Demand1.{Demand1}
-use Rattle.demands.proofs.CallTables.{new-table, reset-table, start-table, drop-table, closing-table, save-table, pick-up-numbers}
-use Rattle.demands.proofs.ByteTables.{byte-table}
-use Rattle.demands.proofs.ByteNumbers.{byte-numbers}
-use Rattle.demands.proofs.SliceTables.{slice-table}
-use Rattle.demands.proofs.HuntTables.{hunt-table}
-use Rattle.demands.proofs.WriteTables.{write-table}
-use Rattle.demands.proofs.ListTables.{list-table, list-refused}
-use Rattle.demands.proofs.Refused.{new-refused, reset-refused, start-refused, drop-refused, drop-done, byte-ended, slice-refused, slice-ended, more-open, closing-refused, save-refused, pick-up-refused, hunt-refused, write-refused}
+use Rattle.demands.proofs.numbers.CallTables.{new-table, reset-table, start-table, drop-table, closing-table, save-table, pick-up-numbers}
+use Rattle.demands.proofs.numbers.ByteTables.{byte-table}
+use Rattle.demands.proofs.numbers.ByteNumbers.{byte-numbers}
+use Rattle.demands.proofs.numbers.SliceTables.{slice-table}
+use Rattle.demands.proofs.numbers.HuntTables.{hunt-table}
+use Rattle.demands.proofs.numbers.WriteTables.{write-table}
+use Rattle.demands.proofs.numbers.ListTables.{list-table, list-refused}
+use Rattle.demands.proofs.numbers.Refused.{new-refused, reset-refused, start-refused, drop-refused, drop-done, byte-ended, slice-refused, slice-ended, more-open, closing-refused, save-refused, pick-up-refused, hunt-refused, write-refused}
 
 pub demand1 : Demand1
 demand1 =

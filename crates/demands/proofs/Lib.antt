@@ -1,12 +1,4 @@
-pub mod Formed
-pub mod CallTables
-pub mod HuntTables
-pub mod WriteTables
-pub mod ByteTables
-pub mod ByteNumbers
-pub mod SliceTables
-pub mod ListTables
-pub mod Refused
+pub mod numbers
 pub mod Demand1
 pub mod ByteLists
 pub mod loads

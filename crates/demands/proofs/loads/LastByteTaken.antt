@@ -3,7 +3,7 @@ use mathlib.Core.Path.{ap}
 use Rattle.chain.specs.declared.Chain.{Chain}
 use Rattle.demands.specs.Demand2.{Demand2d}
 use Rattle.demands.specs.Ours.{ours}
-use Rattle.demands.proofs.Refused.{slice-ended}
+use Rattle.demands.proofs.numbers.Refused.{slice-ended}
 
 pub second-d : Demand2d ours
 second-d c m s k l h n =

@@ -24,7 +24,7 @@ use Rattle.chain.proofs.WellFormed.{m-ill-formed}
 use Rattle.chain.proofs.Table.{table, row-of, else-of, state-reads}
 use Rattle.demands.specs.Formed.{WellSaved}
 use Rattle.demands.specs.Table.{startTable, closingTable, saveTable, PickUpNumbers}
-use Rattle.demands.proofs.Formed.{m-well-saved}
+use Rattle.demands.proofs.numbers.Formed.{m-well-saved}
 
 pub new-table : (count : ℕ) (kinds m : List ℕ) → Table (newOf count kinds (length m) .number) (chainTable count kinds m) done
 unfolding newOf chainNumber

@@ -26,7 +26,7 @@ use Rattle.machine.proofs.Feed.{run-append, run-over}
 use Rattle.machine.proofs.Runs.{step-number}
 use Rattle.machine.proofs.Slices.{slice-runs, fed-more, slice-number, more-feeds}
 use Rattle.demands.specs.ByteTable.{ByteClaim, _whenever_, byteClaims, claimsOf, ownTable, sliceNumber, AtSome, sliceTable}
-use Rattle.demands.proofs.ByteTables.{own-same, own-table, slice-off}
+use Rattle.demands.proofs.numbers.ByteTables.{own-same, own-table, slice-off}
 
 -- a condition that a byte's number ends the run by
 abbrev Ends : (Chain → ℕ → Type 0) → Type 0

@@ -15,7 +15,7 @@ use Rattle.chain.proofs.Sound.{feed-sound}
 use Rattle.machine.specs.Byte.{nextDevice, numberOf}
 use Rattle.machine.proofs.Slices.{slice-number}
 use Rattle.demands.specs.ByteTable.{Awaits, Begins, BeginsWith, Five, Six, Seven, Eight, Nine, Ten, ownTable, sliceNumber, ByteNumbers}
-use Rattle.demands.proofs.ByteTables.{own-table, run-one}
+use Rattle.demands.proofs.numbers.ByteTables.{own-table, run-one}
 
 module _ (c : Chain) (b : ℕ) where
   -- what the awaited byte rules out

@@ -33,8 +33,8 @@ use Rattle.writer.specs.Write.{writeNumber, writeOf, writeOutput}
 use Rattle.chain.specs.Bytes.{Bytes}
 use Rattle.demands.specs.ByteTable.{sliceNumber}
 use Rattle.demands.specs.Demand1.{AsLent, Ended, EndedAt, ByteEnded}
-use Rattle.demands.proofs.ByteTables.{run-one}
-use Rattle.demands.proofs.SliceTables.{at-byte}
+use Rattle.demands.proofs.numbers.ByteTables.{run-one}
+use Rattle.demands.proofs.numbers.SliceTables.{at-byte}
 
 -- ---- calls that hand a state back
 
