@@ -7,3 +7,4 @@ pub mod Demand2
 pub mod stops
 pub mod Promised
 pub mod wrong
+pub mod Main

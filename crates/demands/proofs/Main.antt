@@ -1,0 +1,97 @@
+-- Start here: each sentence of the owner's three demands, and each loader that they shut out, with the statement that says it and the
+-- theorem that has it. The statements stand in specs/; that `ours` is the code, Promised has for each call. Assumes nothing.
+use Prim.Native.Nat.{ℕ, _≤_}
+use mathlib.Core.Logic.{_⊎_}
+use mathlib.Core.Path.{_≡_}
+use mathlib.Core.List.{List, _∷_, _++_}
+use lib.ListN.{length, take}
+use Rattle.chain.specs.declared.Chain.{Chain}
+use Rattle.hunt.specs.Hunt.{nowhere, foundAt, huntedBytes}
+use Rattle.hunt.proofs.CutShort.{hunt-cut}
+use Rattle.grammar.specs.Sent.{bytesOf}
+use Rattle.grammar.specs.Stream.{Section, streamSent}
+use Rattle.grammar.specs.Fits.{Fitting}
+use Rattle.demands.specs.Loader.{Loader, Idle, Mode}
+use Rattle.demands.specs.Demand1.{Demand1}
+use Rattle.demands.specs.Demand2.{joined, ran}
+use Rattle.demands.specs.Second.{Demand2}
+use Rattle.demands.specs.Demand3.{Demand3}
+use Rattle.demands.specs.Ours.{ours}
+use Rattle.demands.specs.Cases.{table, All}
+use Rattle.demands.specs.Wrong.{constant, idle, taking, undoing, eager, exclusiveEnd, plainCount, barring, checkWrites, earlierWins, shortClosing, offsetsFromFirst}
+use Rattle.demands.proofs.Demand1.{demand1}
+use Rattle.demands.proofs.Demand2.{demand2}
+use Rattle.demands.proofs.loads.TwelveCases.{twelve}
+use Rattle.demands.proofs.stops.StopsRight.{demand3}
+use Rattle.demands.proofs.wrong.Shut.{constant-out, idle-out, taken-out, per-slice-out}
+use Rattle.demands.proofs.wrong.Eager.{eager-out}
+use Rattle.demands.proofs.wrong.Readings.{exclusive-end-out, plain-count-out, barring-out, check-writes-out, earlier-wins-out, undoing-out, short-closing-out, offsets-out}
+
+-- 1. It takes every byte string, mode, chain and saved place. Each call gives each number exactly when the paper's condition for it holds
+-- and none before it does, and what each refusal leaves is fixed
+pub every-input : Demand1
+every-input = demand1
+
+-- 2. It loads and checks as the maker's AT6000 configuration guide says: (a) Demand2a, a stream that fits loads or is checked as its windows
+-- say, in any cut and whatever follows it; (b) Demand2b, what is written is such a stream, lists as its windows and loads; (c) Demand2c, what
+-- is accepted lists as its section and is written again from that; (d) Demand2d, the byte that ends a run is taken and changes nothing;
+-- (e) Demand2e, what is accepted fits and was let in; (f) Demand2f, a check stores nothing
+pub loads-and-checks : Demand2 ours
+loads-and-checks = demand2
+
+-- 3. Take a stream that would load whole as a write, B4 clear in its control bytes, and stop it after any number of bytes: the closing
+-- bytes, in any cut, end the run and change nothing, and the same stream started afresh leaves what the unbroken load leaves
+pub every-stop : Demand3 ours
+every-stop = demand3
+
+-- on a serial board the stop may come at any raw byte: what is hunted of a front part is a front part of what is hunted, or nothing
+pub serial-stop : (s : List ℕ) (k : ℕ) → k ≤ length s
+    → (foundAt (take k s) ≡ nowhere) ⊎ (huntedBytes (take k s) ≡ take (length (huntedBytes (take k s))) (huntedBytes s))
+serial-stop s k l = hunt-cut s k l
+
+-- The twelve cases of the paper, one table
+pub twelve-cases : All 1 table
+twelve-cases = twelve
+
+-- Shut out of any loader: a count of bytes taken that is made up, wrong on some stream that fits, in some cut, with something after it.
+-- Shut has the same of a front part, of mismatches, and of a rule that makes them up
+pub made-up-count : (l : Loader) → Demand2 l → (c : Chain) (m : List ℕ) (check mode : ℕ) (s : Section) (ss : List Section) → Idle c m → Mode mode
+    → Fitting c check mode s ss → (ps : List (List ℕ)) (b : ℕ) (last rest : List ℕ) → joined ps ++ (b ∷ last) ≡ bytesOf (streamSent c mode s ss)
+    → (ran l check mode c m ps ((b ∷ last) ++ rest) .fed .answer .taken ≡ length (streamSent c mode s ss) → ⊥) → ⊥
+made-up-count l d = taken-out l (d .a)
+
+-- Shut out by name: ours, with one call replaced
+pub record ShutOut : Type 0 where
+  -- a constant answer, and so refusing all; storing nothing; counting the bytes of the slice; taking back what a refused slice stored
+  pub constant-answer : (n t w : ℕ) → Demand2 (constant n t w) → ⊥
+  pub stores-nothing : Demand2 idle → ⊥
+  pub counts-slice : Demand2 (taking (λ c m s. length s)) → ⊥
+  pub undoes : Demand2 undoing → ⊥
+  -- storing the whole window at its first byte, whatever is made up for the bytes to come: the stop
+  pub stores-early : (f : Chain → List ℕ → ℕ → List ℕ) → Demand3 (eager f) → ⊥
+  -- 'Easy to get wrong', in its order
+  pub end-exclusive : Demand2 exclusiveEnd → ⊥
+  pub count-plain : Demand2 plainCount → ⊥
+  pub own-bar : Demand2 barring → ⊥
+  pub check-writes : Demand2 checkWrites → ⊥
+  pub earlier-wins : Demand2 earlierWins → ⊥
+  -- closing bytes one short; offsets from the stream's first byte
+  pub closing-short : Demand3 shortClosing → ⊥
+  pub offsets-first : Demand2 offsetsFromFirst → ⊥
+
+pub shut-out : ShutOut
+shut-out =
+    record {
+      constant-answer = λ n t w d. constant-out n t w (d .a);
+      stores-nothing = λ d. idle-out (d .a);
+      counts-slice = λ d. per-slice-out (d .a);
+      undoes = λ d. undoing-out (d .d);
+      stores-early = eager-out;
+      end-exclusive = λ d. exclusive-end-out (d .a);
+      count-plain = λ d. plain-count-out (d .a);
+      own-bar = λ d. barring-out (d .a);
+      check-writes = λ d. check-writes-out (d .f);
+      earlier-wins = λ d. earlier-wins-out (d .a);
+      closing-short = short-closing-out;
+      offsets-first = λ d. offsets-out (d .b);
+    }
