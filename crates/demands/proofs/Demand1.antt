@@ -6,7 +6,7 @@ use Rattle.demands.proofs.numbers.ByteNumbers.{byte-numbers}
 use Rattle.demands.proofs.numbers.SliceTables.{slice-table}
 use Rattle.demands.proofs.numbers.HuntTables.{hunt-table}
 use Rattle.demands.proofs.numbers.WriteTables.{write-table}
-use Rattle.demands.proofs.numbers.ListTables.{list-table, list-refused}
+use Rattle.demands.proofs.numbers.ListTables.{list-table, list-taken, list-refused}
 use Rattle.demands.proofs.numbers.Refused.{new-refused, reset-refused, start-refused, drop-refused, drop-done, byte-ended, slice-refused, slice-ended, more-open, closing-refused, save-refused, pick-up-refused, hunt-refused, write-refused}
 
 pub demand1 : Demand1
@@ -27,6 +27,7 @@ demand1 =
             hunt = hunt-table;
             write = write-table;
             list = list-table;
+            list-taken = list-taken;
           };
       refusals =
           record {

@@ -21,7 +21,7 @@ use Rattle.chain.specs.Bytes.{Bytes}
 use Rattle.chain.specs.Table.{Table, chainTable, openTable, Running}
 use Rattle.demands.specs.Table.{startTable, closingTable, saveTable, PickUpNumbers, huntTable, writeTable}
 use Rattle.demands.specs.ByteTable.{byteTable, sliceNumber, sliceTable, ByteNumbers}
-use Rattle.demands.specs.ListTable.{listTable}
+use Rattle.demands.specs.ListTable.{listTable, ListTaken}
 
 -- each number exactly when. The lister's stream is of bytes, as its type in the code says
 pub record Numbers : Type 0 where
@@ -40,6 +40,8 @@ pub record Numbers : Type 0 where
       → Table (writeOf kind mode control address starts ends bytes (length out) .number) (writeTable kind mode control address starts ends bytes out) done
   pub list : (kind mode : ℕ) (s : List ℕ) → Bytes s → (starts ends offsets : List ℕ)
       → Table (listedOf s (preambleAt mode) (listed kind mode s starts ends offsets) .number) (listTable kind mode s starts ends offsets) done
+  pub list-taken : (kind mode : ℕ) (s : List ℕ) → Bytes s → (starts ends offsets : List ℕ)
+      → ListTaken kind mode s (listedOf s (preambleAt mode) (listed kind mode s starts ends offsets) .taken)
 
 -- what a slice that 1, 17 or 4 refuses leaves
 pub record AsLent (c : Chain) (m s : List ℕ) : Type 0 where

@@ -5,12 +5,12 @@ use mathlib.Core.Path.{_≡_}
 use mathlib.Core.List.{List, [], _∷_}
 use lib.ListN.{length, replicate}
 use Rattle.chain.specs.declared.Chain.{Chain}
-use Rattle.chain.specs.Paper.{writing, bad-chain, bad-mode, no-preamble, barred, no-check, bad-check-byte, ends-here, last-device, bad-start, bad-end, too-short, more}
+use Rattle.chain.specs.Paper.{writing, first-mode, two-preambles, bad-chain, bad-mode, no-preamble, barred, no-check, bad-check-byte, ends-here, last-device, bad-start, bad-end, too-short, more}
 use Rattle.chain.specs.Kinds.{sizeOf}
 use Rattle.chain.specs.Calls.{newOf}
-use Rattle.machine.specs.Calls.{startOf}
+use Rattle.machine.specs.Calls.{startOf, sliceOf}
 use Rattle.lister.specs.Listing.{preambleAt, countAt}
-use Rattle.chain.specs.WellFormed.{Known}
+use Rattle.chain.specs.WellFormed.{Known, Between}
 use Rattle.chain.specs.Table.{Claim, _when_, NoMode}
 use Rattle.demands.specs.ByteTable.{sliceNumber}
 
@@ -21,6 +21,15 @@ freshRun kind mode = startOf (newOf 1 (kind ∷ replicate 7 0) (sizeOf kind) .ch
 -- the stream's own number: what the machine gives for it
 abbrev pub ownNumber : ℕ → ℕ → List ℕ → ℕ
 ownNumber kind mode s = sliceNumber (freshRun kind mode) (replicate (sizeOf kind) 0) s
+
+-- and the bytes that it takes
+abbrev pub ownTaken : ℕ → ℕ → List ℕ → ℕ
+ownTaken kind mode s = sliceOf (freshRun kind mode) (replicate (sizeOf kind) 0) s .answer .taken
+
+-- t bytes are answered as taken: none for 1 and 2, else those that the machine takes, with any number
+pub record ListTaken (kind mode : ℕ) (s : List ℕ) (t : ℕ) : Type 0 where
+  pub none : (Known kind → ⊥) ⊎ NoMode mode → t ≡ 0
+  pub own : Known kind → Between first-mode two-preambles mode → t ≡ ownTaken kind mode s
 
 -- a table shorter than the count of windows
 abbrev pub Shorter : ℕ → List ℕ → List ℕ → List ℕ → Type 0

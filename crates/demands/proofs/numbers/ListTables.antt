@@ -1,7 +1,7 @@
 -- The table of the lister's numbers, and what its refusals leave. Assumes nothing.
 use Prim.Native.Nat.{ℕ, zero, suc, _+_, _<_}
 use mathlib.Core.Bool.{Bool, true, false, not}
-use mathlib.Core.Logic.{inl, inr, _≢_}
+use mathlib.Core.Logic.{inl, inr, _≢_, ⊎-elim}
 use mathlib.Core.Path.{_≡_, refl, sym, ap, _∙_}
 use mathlib.Core.List.{List, [], _∷_}
 use native.Mathlib.Nat.{add-zero}
@@ -17,13 +17,14 @@ use Rattle.chain.specs.Kinds.{sizeOf, baseOf, knownOf}
 use Rattle.chain.specs.State.{badChain, unusedZero, illFormed, feedNumber, stateNumber}
 use Rattle.chain.specs.Calls.{firstOnly, freshChain, chainNumber, newOf}
 use Rattle.chain.proofs.Sizes.{size-most}
-use Rattle.chain.proofs.ByCases.{by-test}
+use Rattle.chain.proofs.ByCases.{by-test, either-way}
 use Rattle.machine.specs.Byte.{byteRules, numberOf}
 use Rattle.machine.specs.Run.{Run, run, stepOf, runOf}
 use Rattle.machine.proofs.Started.{opened-feeds}
-use Rattle.machine.specs.Calls.{openedPlace, startNumber, startOf}
+use Rattle.machine.specs.Calls.{openedPlace, startNumber, startOf, fedOf, sliceOf}
+use Rattle.machine.specs.declared.Fed.{Fed}
 use Rattle.machine.proofs.Runs.{step-number}
-use Rattle.machine.proofs.Slices.{slice-number}
+use Rattle.machine.proofs.Slices.{slice-runs, slice-number}
 use Rattle.machine.proofs.Feed.{first-on, first-off}
 use Rattle.lister.specs.declared.stream.Stop.{Stop}
 use Rattle.lister.specs.declared.Listed.{Listed}
@@ -31,12 +32,13 @@ use Rattle.lister.specs.Stops.{stop}
 use Rattle.lister.specs.Listing.{preambleAt, countAt, streamStop, anyShorter, listStop, listedOf, listingOf, listed, Lists}
 use Rattle.lister.proofs.AsMachine.{stream-as-machine}
 use Rattle.chain.specs.Bytes.{Bytes}
-use Rattle.chain.specs.WellFormed.{Among}
+use Rattle.chain.specs.WellFormed.{Among, Between}
 use Rattle.chain.specs.Table.{Table}
-use Rattle.chain.proofs.BadChain.{m-unknown}
+use Rattle.chain.proofs.BadChain.{m-known, m-unknown}
+use Rattle.chain.proofs.Means.{Means, m-none, said, reads}
 use Rattle.chain.proofs.Table.{table, table-reads}
 use Rattle.demands.specs.ByteTable.{sliceNumber}
-use Rattle.demands.specs.ListTable.{freshRun, ownNumber, listTable}
+use Rattle.demands.specs.ListTable.{freshRun, ownNumber, ownTaken, listTable, ListTaken}
 use Rattle.demands.specs.Demand1.{ListRefused}
 
 -- ---- a freshly reset device, and a write started on it
@@ -143,6 +145,11 @@ through true b x y z = refl
 through false true x y z = refl
 through false false x y z = refl
 
+through-taken : (a b : Bool) (n : ℕ) (e : Stop) → pick a (stop n (e .taken)) (pick b (stop too-short (e .taken)) e) .taken ≡ e .taken
+through-taken true b n e = refl
+through-taken false true n e = refl
+through-taken false false n e = refl
+
 bytes-at : (s : List ℕ) → Bytes s → (i : ℕ) → getD s i 0 < 256
 bytes-at [] h i = lit< tt
 bytes-at (b ∷ bs) h zero = h .0
@@ -165,6 +172,15 @@ module _ (kind mode : ℕ) (s : List ℕ) (small : Bytes s) where
     own-among : Among (ownNumber kind mode s) runNumbers
     own-among =
         rw own-run (run-among s (run (started kind known mode inside) memory more) (inr (inr (inr (inr (inr (inr (inr (inr (inr (inl refl)))))))))))
+
+    own-taken : streamStop (sizeOf kind) mode s .taken ≡ ownTaken kind mode s
+    unfolding fedOf
+    own-taken =
+        ap (λ (e : Stop). e .taken) (stream-as-machine kind (replicate 7 0) mode memory s (bytes-at s small))
+        ∙ sym
+        (ap (λ (c : Chain). sliceOf c memory s .answer .taken) (start-is kind known mode inside)
+        ∙ ap (λ (f : Fed). f .answer .taken)
+        (slice-runs (started kind known mode inside) memory s (opens kind known mode inside memory (length-replicate (sizeOf kind) 0)) .0))
 
   module _ (starts ends offsets : List ℕ) where
     abbrev short : Bool
@@ -195,6 +211,19 @@ module _ (kind mode : ℕ) (s : List ℕ) (small : Bytes s) where
     -- s is bytes, as its type in the code says
     pub list-table : Table (listedOf s (preambleAt mode) (listed kind mode s starts ends offsets) .number) (listTable kind mode s starts ends offsets) done
     list-table = rw list-number (table rules (listTable kind mode s starts ends offsets) done tt (search (m-unknown, table-reads) depth 40))
+
+    pub list-taken : ListTaken kind mode s (listedOf s (preambleAt mode) (listed kind mode s starts ends offsets) .taken)
+    unfolding listedOf listStop
+    list-taken =
+        record {
+          none = ⊎-elim (λ u. rw (m-unknown kind .said u))
+              (λ n. let f : from first-mode two-preambles mode ≡ false = said (search reads) n in either-way (λ (e : Stop). e .taken ≡ 0) (eqb (sizeOf kind) 0) _ _ refl (rw f));
+          own = λ k b.
+              let e′ = streamStop (sizeOf kind) mode s in
+              let known = eqb-false (sizeOf kind) 0 (m-known kind .said k) in
+              let f : from first-mode two-preambles mode ≡ true = said (search reads) b in
+              rw (ne-eqb (sizeOf kind) 0 known, f) (through-taken (not (eqb (e′ .number) done)) short (e′ .number) e′ ∙ own-taken known f);
+        }
 
 -- ---- what a refusal leaves
 
