@@ -8,3 +8,4 @@ pub mod ByteNumbers
 pub mod SliceTables
 pub mod ListTables
 pub mod Refused
+pub mod InPlace

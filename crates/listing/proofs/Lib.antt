@@ -6,3 +6,4 @@ pub mod Whole
 pub mod Printed
 pub mod Only
 pub mod Cases
+pub mod Numbers
