@@ -21,7 +21,12 @@ returns-3 c = record { made = simp (start-passes (c .before .before .before .bef
 
 returns-4 : tie.Need-returns-4
 unfolding startOf
-returns-4 c = record { made = simp (start-passes (c .before .before .before .before .before .before .before .before .args .c) (length ((c .before .before .before .before .before .before .before .before .args .mem) .now)) (c .before .before .before .before .before .before .before .before .args .mode) (sym (c .before .before .before .before .before .before .state-number .ensures) ∙ (c .before .before .before .before .before .if1 .left)), (c .before .before .before .before .if2 .left), (c .before .task .ensures), (c .closed-place .ensures)) (search tests) }
+returns-4 c =
+    let at-if2 = c .before .before .before .before in
+    let at-if1 = at-if2 .before in
+    let at-state-number = at-if1 .before in
+    let entry = at-state-number .before .before in
+    record { made = simp (start-passes (entry .args .c) (length ((entry .args .mem) .now)) (entry .args .mode) (sym (at-state-number .state-number .ensures) ∙ (at-if1 .if1 .left)), (at-if2 .if2 .left), (c .before .task .ensures), (c .closed-place .ensures)) (search tests) }
 
 pub start-spec : {M : Type 1} → statement M
 start-spec =

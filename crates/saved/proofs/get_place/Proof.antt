@@ -34,20 +34,27 @@ cast-p-5 c =
 
 returns : tie.Need-returns
 returns c =
-    let s = c .before .before .before .before .before .before .before .before .before .args .s .now in
-    let byte : (i : ℕ) → getD s i 0 < 2 ^ 8 = λ i. c .before .before .before .before .before .before .before .before .shared-slice-known .given i .fits in
+    let at-get322 = c .before .before .before in
+    let at-get163 = at-get322 .before in
+    let at-get162 = at-get163 .before in
+    let at-get16 = at-get162 .before in
+    let at-get32 = at-get16 .before in
+    let at-shared-slice-known = at-get32 .before in
+    let entry = at-shared-slice-known .before in
+    let s = entry .args .s .now in
+    let byte : (i : ℕ) → getD s i 0 < 2 ^ 8 = λ i. at-shared-slice-known .shared-slice-known .given i .fits in
     let at = byteCount numberRows in
     let last = byteCount (numberRows ++ registerRows) in
-    let head = fields-of-one 32 (widths headRows) (packed (bytes 4) (elems 0 4 s)) refl (c .before .before .before .before .before .before .before .get32 .ensures) in
-    let start = c .before .before .before .before .before .before .get16 .ensures in
-    let end = c .before .before .before .before .before .get162 .ensures in
-    let next = c .before .before .before .before .get163 .ensures in
-    let taken = c .before .before .before .get322 .ensures in
+    let head = fields-of-one 32 (widths headRows) (packed (bytes 4) (elems 0 4 s)) refl (at-get32 .get32 .ensures) in
+    let start = at-get16 .get16 .ensures in
+    let end = at-get162 .get162 .ensures in
+    let next = at-get163 .get163 .ensures in
+    let taken = at-get322 .get322 .ensures in
     let mismatches = c .before .before .get323 .ensures in
     let control = sym (fields-packed (bytes 1) (getD s last 0 ∷ []) (byte last, tt)) in
     ap (placeOf rows)
     ((λ k. head k ++ (start k ++ (end k ++ (next k ++ (taken k ++ (mismatches k ++ (recut (bytes 8) (bytes 8) (elems at 8 s) ++ control k)))))))
-    ∙ sym (held-is s byte (c .before .before .before .before .before .before .before .before .before .pre)))
+    ∙ sym (held-is s byte (entry .pre)))
 
 pub get-place-spec : {M : Type 1} → statement M
 get-place-spec =

@@ -35,24 +35,41 @@ returns-3 c = let a = (c .before .before .before .before .before .before .before
     }
 
 returns-4 : tie.Need-returns-4
-returns-4 c = let a = (c .before .before .before .before .before .before .before .before .before .before .before .before .args) in
-    let e = sym (c .before .before .before .before .before .before .before .before .before .state-number .ensures) ∙ (c .before .before .before .before .before .before .before .before .if1 .left) in
-    let w = found (a .c) (length (a .mem .now)) (a .saved .now) (c .before .before .before .before .get-registers .result) (c .before .before .before .get-place .result) (c .before .before .is-marked .result) (c .before .well-formed .result) (c .before .before .before .before .before .if3 .left)
-    (c .before .before .before .before .get-registers .ensures) (c .before .before .before .get-place .ensures) (c .before .before .is-marked .ensures) (c .before .well-formed .ensures) in
+returns-4 c =
+    let at-get-place = c .before .before .before in
+    let at-get-registers = at-get-place .before in
+    let at-if3 = at-get-registers .before in
+    let at-if2 = at-if3 .before in
+    let at-if1 = at-if2 .before .before in
+    let at-state-number = at-if1 .before in
+    let entry = at-state-number .before .before .before in
+    let a = entry .args in
+    let e = sym (at-state-number .state-number .ensures) ∙ (at-if1 .if1 .left) in
+    let w = found (a .c) (length (a .mem .now)) (a .saved .now) (at-get-registers .get-registers .result) (at-get-place .get-place .result) (c .before .before .is-marked .result) (c .before .well-formed .result) (at-if3 .if3 .left)
+    (at-get-registers .get-registers .ensures) (at-get-place .get-place .ensures) (c .before .before .is-marked .ensures) (c .before .well-formed .ensures) in
     record {
       made = pick-up-off (a .c) (length (a .mem .now)) (a .saved .now) ill-formed (λ q. omega arith)
-          (pick-up-asked (a .c) (length (a .mem .now)) (a .saved .now) e ∙ simp (ne-eqb _ _ (c .before .before .before .before .before .before .if2 .left), w, (c .if4 .taken)));
+          (pick-up-asked (a .c) (length (a .mem .now)) (a .saved .now) e ∙ simp (ne-eqb _ _ (at-if2 .if2 .left), w, (c .if4 .taken)));
     }
 
 returns-5 : tie.Need-returns-5
-returns-5 c = let a = (c .before .before .before .before .before .before .before .before .before .before .before .before .before .args) in
-    let e = sym (c .before .before .before .before .before .before .before .before .before .before .state-number .ensures) ∙ (c .before .before .before .before .before .before .before .before .before .if1 .left) in
-    let w = found (a .c) (length (a .mem .now)) (a .saved .now) (c .before .before .before .before .before .get-registers .result) (c .before .before .before .before .get-place .result) (c .before .before .before .is-marked .result) (c .before .before .well-formed .result) (c .before .before .before .before .before .before .if3 .left)
-    (c .before .before .before .before .before .get-registers .ensures) (c .before .before .before .before .get-place .ensures) (c .before .before .before .is-marked .ensures) (c .before .before .well-formed .ensures) in
+returns-5 c =
+    let at-is-marked = c .before .before .before in
+    let at-get-place = at-is-marked .before in
+    let at-get-registers = at-get-place .before in
+    let at-if3 = at-get-registers .before in
+    let at-if2 = at-if3 .before in
+    let at-if1 = at-if2 .before .before in
+    let at-state-number = at-if1 .before in
+    let entry = at-state-number .before .before .before in
+    let a = entry .args in
+    let e = sym (at-state-number .state-number .ensures) ∙ (at-if1 .if1 .left) in
+    let w = found (a .c) (length (a .mem .now)) (a .saved .now) (at-get-registers .get-registers .result) (at-get-place .get-place .result) (at-is-marked .is-marked .result) (c .before .before .well-formed .result) (at-if3 .if3 .left)
+    (at-get-registers .get-registers .ensures) (at-get-place .get-place .ensures) (at-is-marked .is-marked .ensures) (c .before .before .well-formed .ensures) in
     record {
-      made = (λ k. record { chain = record { count = a .c .count; kinds = a .c .kinds; registers = (c .before .before .before .before .before .get-registers .ensures) k; place = (c .before .before .before .before .get-place .ensures) k }; number = done })
+      made = (λ k. record { chain = record { count = a .c .count; kinds = a .c .kinds; registers = (at-get-registers .get-registers .ensures) k; place = (at-get-place .get-place .ensures) k }; number = done })
           ∙ pick-up-on (a .c) (length (a .mem .now)) (a .saved .now)
-          (pick-up-asked (a .c) (length (a .mem .now)) (a .saved .now) e ∙ simp (ne-eqb _ _ (c .before .before .before .before .before .before .before .if2 .left), w, (c .before .if4 .left)));
+          (pick-up-asked (a .c) (length (a .mem .now)) (a .saved .now) e ∙ simp (ne-eqb _ _ (at-if2 .if2 .left), w, (c .before .if4 .left)));
     }
 
 pub pick-up-spec : {M : Type 1} → statement M

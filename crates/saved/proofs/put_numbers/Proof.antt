@@ -13,15 +13,21 @@ use Rattle.saved.proofs.put_numbers.Tie as tie
 
 returns : tie.Need-returns
 returns c =
+    let at-put322 = c .before .before .before .before .before .before in
+    let at-put163 = at-put322 .before .before .before .before in
+    let at-put162 = at-put163 .before .before .before .before in
+    let at-put16 = at-put162 .before .before .before .before in
+    let at-put32 = at-put16 .before .before .before .before in
+    let at-head = at-put32 .before in
     let s = c .before .before .before .before .before .before .before .before .before .before .before .before .before .before .before .before .before .before .before .before .before .before .before .before .before .before in
     let p = s .args .p in
     let out = s .args .out .now in
-    let h = c .before .before .before .before .before .before .before .before .before .before .before .before .before .before .before .before .before .before .before .before .before .before .before .head in
-    let first = c .before .before .before .before .before .before .before .before .before .before .before .before .before .before .before .before .before .before .before .before .before .before .put32 .ensures in
-    let start = c .before .before .before .before .before .before .before .before .before .before .before .before .before .before .before .before .before .before .put16 .ensures in
-    let end = c .before .before .before .before .before .before .before .before .before .before .before .before .before .before .put162 .ensures in
-    let next = c .before .before .before .before .before .before .before .before .before .before .put163 .ensures in
-    let taken = c .before .before .before .before .before .before .put322 .ensures in
+    let h = at-head .head in
+    let first = at-put32 .put32 .ensures in
+    let start = at-put16 .put16 .ensures in
+    let end = at-put162 .put162 .ensures in
+    let next = at-put163 .put163 .ensures in
+    let taken = at-put322 .put322 .ensures in
     -- where the row k stands
     let at : ℕ → ℕ = λ k. byteCount (take k numberRows) in
     let word : ℕ → List ℕ = λ x. recut (16 ∷ []) (bytes 2) (x ∷ []) in

@@ -30,13 +30,16 @@ back s i x e =
 
 returns : tie.Need-returns
 returns c =
+    let at-last4 = c .before .before .before in
+    let at-put32 = at-last4 .before .before .before .before in
+    let at-first4 = at-put32 .before in
     let s = c .before .before .before .before .before .before .before .before .before .before .before in
     let out = s .args .out .now in
     let at = byteCount numberRows in
-    let first = c .before .before .before .before .before .before .before .before .first4 in
-    let last = c .before .before .before .last4 in
+    let first = at-first4 .first4 in
+    let last = at-last4 .last4 in
     c .before .before .put322 .ensures
-    ∙ (λ k. sets ((c .before .before .before .before .before .before .before .put32 .ensures) k) (at + 4) (recut (32 ∷ []) (bytes 4) (last .result ∷ [])))
+    ∙ (λ k. sets ((at-put32 .put32 .ensures) k) (at + 4) (recut (32 ∷ []) (bytes 4) (last .result ∷ [])))
     ∙ (λ k. sets (sets out at (back s 0 (first .result) (first .ensures) k)) (at + 4) (back s 4 (last .result) (last .ensures) k))
     ∙ ap (sets out at) (elems-is 0 8 (s .args .registers) (sym (eight s)))
 

@@ -62,10 +62,14 @@ put-place-requires c κs =
 returns-3 : tie.Need-returns-3
 unfolding savedIn
 returns-3 c =
-    let a = c .before .before .before .before .before .before .before .before .before .before .before .args in
-    let e = sym (c .before .before .before .before .before .before .before .before .open-number .ensures) ∙ c .before .before .before .before .before .before .before .if1 .left in
+    let at-if2 = c .before .before .before .before .before .before in
+    let at-if1 = at-if2 .before in
+    let at-open-number = at-if1 .before in
+    let entry = at-open-number .before .before .before in
+    let a = entry .args in
+    let e = sym (at-open-number .open-number .ensures) ∙ at-if1 .if1 .left in
     let r = writes-on (savedBytes (a .c .registers) (a .c .place)) (a .out .now)
-    (save-asked (a .c) (length (a .mem .now)) (length (a .out .now)) e ∙ simp (le-ltb _ _ (c .before .before .before .before .before .before .if2 .left))) in
+    (save-asked (a .c) (length (a .mem .now)) (length (a .out .now)) e ∙ simp (le-ltb _ _ (at-if2 .if2 .left))) in
     record { answer = r .answer; output = c .before .before .put-place .ensures ∙ r .output }
 
 pub save-spec : {M : Type 1} → statement M

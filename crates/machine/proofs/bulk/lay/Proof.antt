@@ -15,7 +15,10 @@ returns : tie.Need-returns
 returns c = lay-check (c .before .before .before .before .before .before .args .check) ((c .before .before .before .before .before .before .args .mem) .now) ((c .before .before .before .before .before .before .args .t) .now) (c .before .before .before .before .before .before .args .at) (search needs) (c .differ .result) (c .before .before .before .if1 .taken) (c .differ .ensures)
 
 returns-2 : tie.Need-returns-2
-returns-2 c = lay-write (c .before .before .before .before .before .before .before .before .args .check) ((c .before .before .before .before .before .before .before .before .args .mem) .now) ((c .before .before .before .before .before .before .before .before .args .t) .now) (c .before .before .before .before .before .before .before .before .args .at) (search needs) (c .before .before .copy .last .0) (c .before .before .before .before .if2 .taken) (c .before .before .copy .ensures)
+returns-2 c =
+    let at-if2 = c .before .before .before .before in
+    let entry = at-if2 .before .before .before .before in
+    lay-write (entry .args .check) ((entry .args .mem) .now) ((entry .args .t) .now) (entry .args .at) (search needs) (c .before .before .copy .last .0) (at-if2 .if2 .taken) (c .before .before .copy .ensures)
 
 returns-3 : tie.Need-returns-3
 unfolding missesOf laidOf

@@ -23,7 +23,9 @@ returns-4 c = simp ((c .before .before .before .before .before .before .before .
 
 returns-5 : tie.Need-returns-5
 unfolding numberOf
-returns-5 c = (c .begun .ensures) ∙ simp ((c .before .before .before .before .before .before .before .before .before .before .before .pre), ← (c .before .before .wrapping-add-u8 .ensures), ← (c .before .at8 .ensures)) (search tests)
+returns-5 c =
+    let entry = c .before .before .before .before .before .before .before .before .before .before .before in
+    (c .begun .ensures) ∙ simp ((entry .pre), ← (c .before .before .wrapping-add-u8 .ensures), ← (c .before .at8 .ensures)) (search tests)
 
 pub number-at-check-spec : {M : Type 1} → statement M
 number-at-check-spec =
