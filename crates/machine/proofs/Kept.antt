@@ -1,4 +1,4 @@
--- What a byte and a run of them leave as it was: devices and sort of run; a check every cell, and every register. Assumes nothing.
+-- What a byte and a run of them leave as it was: the sort of run; a check every cell, and every register. Assumes nothing.
 use Prim.Native.Nat.{ℕ}
 use mathlib.Core.Bool.{false, and-false}
 use mathlib.Core.Path.{_≡_, refl, _∙_}
@@ -8,18 +8,12 @@ use Rattle.chain.specs.declared.Chain.{Chain}
 use Rattle.chain.specs.Paper.{checking, more}
 use Rattle.chain.proofs.ByCases.{by-test}
 use Rattle.machine.specs.Byte.{numberOf}
-use Rattle.machine.specs.Run.{writes, memoryOf, registersOf, missedOf, counted, loads, Run, run, stepOf, runOf}
+use Rattle.machine.specs.Run.{writes, memoryOf, registersOf, missedOf, counted, loads, Run, stepOf, runOf}
 use Rattle.machine.proofs.Frame.{advance-frame}
-use Rattle.machine.proofs.Runs.{run-keeps, step-lasts}
+use Rattle.machine.proofs.Runs.{run-keeps}
 
 module _ (c : Chain) (m : List ℕ) (b : ℕ) where
-  -- devices and sort of run stay
-  pub step-count : stepOf c m b .chain .count ≡ c .count
-  step-count = step-lasts (run c m more) b .count
-
-  pub step-kinds : stepOf c m b .chain .kinds ≡ c .kinds
-  step-kinds = step-lasts (run c m more) b .kinds
-
+  -- the sort of run stays
   pub step-check : stepOf c m b .chain .place .check ≡ c .place .check
   unfolding stepOf
   step-check =
