@@ -14,7 +14,7 @@ use Rattle.grammar.specs.Sent.{bytesOf}
 use Rattle.grammar.specs.Fits.{SectionsFit, Fitting, Reading}
 use Rattle.chain.specs.Bytes.{Bytes}
 use Rattle.demands.specs.Loader.{Idle, Mode}
-use Rattle.demands.specs.Files.{sectionOf}
+use Rattle.writer.specs.Stream.{sectionOf}
 
 abbrev pub teaching : Chain
 teaching = record { count = 1; kinds = replicate 8 0; registers = replicate 8 0; place = closedPlace }
@@ -26,7 +26,7 @@ abbrev pub windowA : Window
 windowA = record { null = 0; start = 9; end = 11; bytes = 0x11 ∷ 0x22 ∷ 0x33 ∷ [] }
 
 abbrev pub sectionA : Section
-sectionA = sectionOf 0 0 0 0 (windowA ∷ [])
+sectionA = sectionOf 0 (0 ∷ 0 ∷ 0 ∷ []) (windowA ∷ [])
 
 abbrev pub streamA : List ℕ
 streamA = 0xb2 ∷ 0 ∷ 0 ∷ 0 ∷ 0 ∷ 0xfe ∷ 0 ∷ 0 ∷ 9 ∷ 0 ∷ 11 ∷ 0x11 ∷ 0x22 ∷ 0x33 ∷ 0x4d ∷ []

@@ -15,7 +15,7 @@ use Rattle.chain.specs.State.{badChain, unusedZero, wellFormed, illFormed, stat
 use Rattle.machine.specs.Byte.{numberOf, passedOf, advanceOf}
 use Rattle.machine.specs.Run.{addressOf, memoryOf, registersOf, missedOf, stepOf, runOf}
 use Rattle.machine.specs.Calls.{startNumber, startOf, fedOf, sliceOf, sliceMemory}
-use Rattle.writer.specs.Stream.{leadIn, streamOf}
+use Rattle.writer.specs.Stream.{leadIn, streamOf, sectionOf}
 use Rattle.writer.specs.Write.{windowsNumber, sumOf, numberOf as writeNumber-of, writeNumber}
 use Rattle.lister.specs.Windows.{windowStop, readWindowOf, windowsStop, windowsOf}
 use Rattle.lister.specs.Listing.{preambleAt, headStop, checkStop, streamStop, listStop, listedOf, listingOf}
@@ -28,7 +28,7 @@ use Rattle.demands.specs.Loader.{Loader, Idle, Mode}
 use Rattle.grammar.specs.Fits.{Fitting}
 use Rattle.demands.specs.Demand2.{joined, ran, Demand2a, Demand2d, Demand2e, Demand2f}
 use Rattle.demands.specs.Demand3.{Whole, Demand3}
-use Rattle.demands.specs.Files.{sectionOf, Demand2b}
+use Rattle.demands.specs.Files.{Demand2b}
 use Rattle.grammar.specs.Tables.{starts, offsets, windowsFrom}
 use Rattle.demands.specs.Ours.{ours}
 use Rattle.demands.specs.Wrong.{undoing, exclusiveEnd, plainCount, barring, checkWrites, earlierWins, shortClosing, offsetsFromFirst}
@@ -63,7 +63,7 @@ plain-count-out d = plain-out plainCount d refl
 -- ---- B4 applied to the stream that sets it
 
 abbrev sectionC : Section
-sectionC = sectionOf 0x10 0 0 0 []
+sectionC = sectionOf 0x10 (0 ∷ 0 ∷ 0 ∷ []) []
 
 fits-C : Fitting teaching writing 1 sectionC []
 unfolding sizeOf
@@ -119,7 +119,7 @@ check-writes-accepts-out d = check-accepts-out checkWrites d disabled cells0 che
 -- ---- overlaps follow stream order: 9..11 as in A, then 10..10 = 44
 
 abbrev overlap : Section
-overlap = sectionOf 0 0 0 0 (windowA ∷ record { null = 0; start = 10; end = 10; bytes = 0x44 ∷ [] } ∷ [])
+overlap = sectionOf 0 (0 ∷ 0 ∷ 0 ∷ []) (windowA ∷ record { null = 0; start = 10; end = 10; bytes = 0x44 ∷ [] } ∷ [])
 
 fits-overlap : Fitting teaching writing 1 overlap []
 unfolding sizeOf

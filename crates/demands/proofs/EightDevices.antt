@@ -2,7 +2,7 @@
 -- windows that overlap, control bits set in the last section; as a write and as a check. By clause (a) each loads. Assumes nothing.
 use Prim.Native.Nat.{ℕ, _<_}
 use mathlib.Core.Bool.{true, false, true≢false}
-use mathlib.Core.Path.{_≡_, refl, sym, subst}
+use mathlib.Core.Path.{_≡_, refl, ap, sym}
 use mathlib.Core.List.{List, [], _∷_}
 use native.Mathlib.Omega.{arith}
 use lib.ListN.{replicate, take}
@@ -21,9 +21,11 @@ use Rattle.grammar.specs.Sent.{bytesOf}
 use Rattle.demands.specs.Loader.{Idle, Mode}
 use Rattle.demands.specs.Demand2.{Loads, ran}
 use Rattle.demands.specs.Demand3.{Whole}
-use Rattle.demands.specs.Files.{sectionOf}
+use Rattle.writer.specs.Stream.{sectionOf}
+use Rattle.demands.specs.Files.{Room, Again}
 use Rattle.demands.specs.Ours.{ours}
 use Rattle.demands.proofs.loads.FittingLoads.{second-a}
+use Rattle.demands.proofs.files.AcceptedAgain.{second-c}
 use Rattle.demands.proofs.loads.StreamA.{zeros-bytes}
 
 -- eight teaching arrays, with registers left over (all bits but B4 in the third, which is not met, B0 in the last) and a place left over
@@ -36,11 +38,11 @@ idle-eight =
     record { kinds = refl; registers = refl; register-bytes = (lit< tt, (lit< tt, (lit< tt, (lit< tt, (lit< tt, (lit< tt, (lit< tt, (lit< tt, tt)))))))); memory-bytes = zeros-bytes 416; sound = refl; closed-place = refl }
 
 abbrev pub none : Section
-none = sectionOf 0 0 0 0 []
+none = sectionOf 0 (0 ∷ 0 ∷ 0 ∷ []) []
 
 abbrev pub two : ℕ → Section
 two control =
-    sectionOf control 1 2 3
+    sectionOf control (1 ∷ 2 ∷ 3 ∷ [])
     (record { null = 7; start = 9; end = 11; bytes = 0x11 ∷ 0x22 ∷ 0x33 ∷ [] }
     ∷ record { null = 0xb2; start = 10; end = 10; bytes = 0x44 ∷ [] }
     ∷ [])
@@ -109,4 +111,11 @@ unfolding sizeOf baseOf knownOf badChain unusedZero wellFormed illFormed stateNu
 one-taken = refl
 
 one-reading : Reading eight 6 (take (ran ours writing 6 eight (replicate 416 0) [] one-stream .fed .answer .taken) one-stream)
-one-reading = subst (λ (n : ℕ). Reading eight 6 (take n one-stream)) (sym one-taken) (record { first = two 0x0c; others = []; fits = one-fits; bytes = refl })
+one-reading = record { first = two 0x0c; others = []; fits = one-fits; bytes = ap (λ (n : ℕ). take n one-stream) (sym one-taken) }
+
+-- so it lists as that section, and is written again from its listing
+pub one-again : (ts te to : List ℕ) → Room 2 ts te to
+    → Again ours 0 6 one-stream (ran ours writing 6 eight (replicate 416 0) [] one-stream .fed .answer .taken) (two 0x0c) (ours .list 0 6 one-stream ts te to)
+unfolding one-reading
+one-again ts te to room =
+    second-c eight (replicate 416 0) writing 6 one-stream ts te to idle-eight mode-six one-small one-accepted one-reading refl room
