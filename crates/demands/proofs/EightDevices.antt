@@ -1,12 +1,11 @@
 -- Instances of what the demands suppose: eight devices in mode 6, with left-over registers and a left-over place, a section with no window,
 -- windows that overlap, control bits set in the last section; as a write and as a check. By clause (a) each loads. Assumes nothing.
-use Prim.Native.Nat.{ℕ, _<_}
+use Prim.Native.Nat.{ℕ}
 use mathlib.Core.Bool.{true, false, true≢false}
 use mathlib.Core.Path.{_≡_, refl, ap, sym}
 use mathlib.Core.List.{List, [], _∷_}
 use native.Mathlib.Omega.{arith}
 use lib.ListN.{replicate, take}
-use lib.Dec.{lit<}
 use Rattle.chain.specs.declared.Chain.{Chain}
 use Rattle.chain.specs.Kinds.{sizeOf, baseOf, knownOf}
 use Rattle.chain.specs.Paper.{writing, checking, done}
@@ -27,6 +26,7 @@ use Rattle.demands.specs.Ours.{ours}
 use Rattle.demands.proofs.loads.FittingLoads.{second-a}
 use Rattle.demands.proofs.files.AcceptedAgain.{second-c}
 use Rattle.demands.proofs.loads.StreamA.{zeros-bytes}
+use Rattle.demands.proofs.ByteLists.{bytes-below}
 
 -- eight teaching arrays, with registers left over (all bits but B4 in the third, which is not met, B0 in the last) and a place left over
 abbrev pub eight : Chain
@@ -35,7 +35,7 @@ eight = record { count = 8; kinds = replicate 8 0; registers = 0 ∷ 0 ∷ 0xef 
 pub idle-eight : Idle eight (replicate 416 0)
 unfolding stateNumber badChain illFormed unusedZero wellFormed knownOf baseOf sizeOf
 idle-eight =
-    record { kinds = refl; registers = refl; register-bytes = (lit< tt, (lit< tt, (lit< tt, (lit< tt, (lit< tt, (lit< tt, (lit< tt, (lit< tt, tt)))))))); memory-bytes = zeros-bytes 416; sound = refl; closed-place = refl }
+    record { kinds = refl; registers = refl; register-bytes = bytes-below (eight .registers) refl; memory-bytes = zeros-bytes 416; sound = refl; closed-place = refl }
 
 abbrev pub none : Section
 none = sectionOf 0 (0 ∷ 0 ∷ 0 ∷ []) []
@@ -54,8 +54,7 @@ fits-write =
     record {
       fits = (omega arith, record { few = omega arith; fit = tt }, refl, (omega arith, record { few = omega arith; fit = (record { order = omega arith; inside = omega arith; full = refl }, (record { order = omega arith; inside = omega arith; full = refl }, tt)) }));
       lets = (record { b4 = refl; b3 = λ e. refl; sent-b3 = λ e. refl }, record { b4 = refl; b3 = λ e. refl; sent-b3 = no });
-      bytes = unfold baseOf in
-          (lit< tt, (lit< tt, (lit< tt, (lit< tt, (lit< tt, (lit< tt, (lit< tt, (lit< tt, (lit< tt, (lit< tt, (lit< tt, (lit< tt, (lit< tt, (lit< tt, (lit< tt, (lit< tt, (lit< tt, (lit< tt, (lit< tt, (lit< tt, (lit< tt, (lit< tt, (lit< tt, (lit< tt, (lit< tt, (lit< tt, (lit< tt, (lit< tt, tt))))))))))))))))))))))))))));
+      bytes = unfold baseOf in bytes-below (bytesOf (streamSent eight 6 none (two 0x1c ∷ []))) refl;
     }
   where
     no : {A : Type 0} → true ≡ false → A
@@ -68,8 +67,7 @@ fits-check =
     record {
       fits = (omega arith, record { few = omega arith; fit = tt }, refl, (omega arith, record { few = omega arith; fit = (record { order = omega arith; inside = omega arith; full = refl }, (record { order = omega arith; inside = omega arith; full = refl }, tt)) }));
       lets = (record { b4 = refl; b3 = λ e. refl; sent-b3 = λ e. refl }, record { b4 = refl; b3 = λ e. refl; sent-b3 = λ e. refl });
-      bytes = unfold baseOf in
-          (lit< tt, (lit< tt, (lit< tt, (lit< tt, (lit< tt, (lit< tt, (lit< tt, (lit< tt, (lit< tt, (lit< tt, (lit< tt, (lit< tt, (lit< tt, (lit< tt, (lit< tt, (lit< tt, (lit< tt, (lit< tt, (lit< tt, (lit< tt, (lit< tt, (lit< tt, (lit< tt, (lit< tt, (lit< tt, (lit< tt, (lit< tt, (lit< tt, tt))))))))))))))))))))))))))));
+      bytes = unfold baseOf in bytes-below (bytesOf (streamSent eight 6 none (two 0x04 ∷ []))) refl;
     }
 
 pub mode-six : Mode 6
@@ -95,7 +93,7 @@ abbrev one-stream : List ℕ
 one-stream = bytesOf (streamSent eight 6 (two 0x0c) [])
 
 one-small : Bytes one-stream
-one-small = (lit< tt, (lit< tt, (lit< tt, (lit< tt, (lit< tt, (lit< tt, (lit< tt, (lit< tt, (lit< tt, (lit< tt, (lit< tt, (lit< tt, (lit< tt, (lit< tt, (lit< tt, (lit< tt, (lit< tt, (lit< tt, (lit< tt, (lit< tt, (lit< tt, (lit< tt, tt))))))))))))))))))))))
+one-small = bytes-below one-stream refl
 
 one-fits : SectionsFit eight 0 (two 0x0c) []
 unfolding sizeOf

@@ -15,6 +15,7 @@ use Rattle.grammar.specs.Fits.{SectionsFit, Fitting, Reading}
 use Rattle.chain.specs.Bytes.{Bytes}
 use Rattle.demands.specs.Loader.{Idle, Mode}
 use Rattle.writer.specs.Stream.{sectionOf}
+use Rattle.demands.proofs.ByteLists.{bytes-below}
 
 abbrev pub teaching : Chain
 teaching = record { count = 1; kinds = replicate 8 0; registers = replicate 8 0; place = closedPlace }
@@ -44,7 +45,7 @@ pub mode-one : Mode 1
 mode-one = record { least = omega arith; most = omega arith }
 
 pub small-A : Bytes streamA
-small-A = (lit< tt, (lit< tt, (lit< tt, (lit< tt, (lit< tt, (lit< tt, (lit< tt, (lit< tt, (lit< tt, (lit< tt, (lit< tt, (lit< tt, (lit< tt, (lit< tt, (lit< tt, tt)))))))))))))))
+small-A = bytes-below streamA refl
 
 pub sections-A : SectionsFit teaching 0 sectionA []
 unfolding sizeOf

@@ -35,6 +35,7 @@ use Rattle.demands.specs.Wrong.{undoing, exclusiveEnd, plainCount, barri
 use Rattle.grammar.proofs.FitsAccepted.{first-lets}
 use Rattle.demands.proofs.loads.StreamA.{teaching, cells0, windowA, sectionA, zeros-bytes, idle-teaching, mode-one, fits-A, streamA, small-A, reading-A}
 use Rattle.demands.proofs.wrong.Shut.{whole-seen}
+use Rattle.demands.proofs.ByteLists.{bytes-below}
 
 -- ---- an end taken as exclusive: A then leaves cell 11
 
@@ -71,7 +72,7 @@ fits-C =
     record {
       fits = (omega arith, record { few = omega arith; fit = tt });
       lets = record { b4 = refl; b3 = λ e. refl; sent-b3 = λ e. refl };
-      bytes = unfold baseOf in (lit< tt, (lit< tt, (lit< tt, (lit< tt, (lit< tt, (lit< tt, (lit< tt, tt)))))));
+      bytes = unfold baseOf in bytes-below (bytesOf (streamSent teaching 1 sectionC [])) refl;
     }
 
 pub own-bar-out : (l : Loader) → Demand2a l → (n : ℕ) → (n ≡ done → ⊥)
@@ -133,7 +134,7 @@ fits-overlap =
         },
       );
       lets = record { b4 = refl; b3 = λ e. refl; sent-b3 = λ e. refl };
-      bytes = unfold baseOf in (lit< tt, (lit< tt, (lit< tt, (lit< tt, (lit< tt, (lit< tt, (lit< tt, (lit< tt, (lit< tt, (lit< tt, (lit< tt, (lit< tt, (lit< tt, (lit< tt, (lit< tt, (lit< tt, (lit< tt, (lit< tt, (lit< tt, (lit< tt, (lit< tt, tt)))))))))))))))))))));
+      bytes = unfold baseOf in bytes-below (bytesOf (streamSent teaching 1 overlap [])) refl;
     }
 
 pub overlaps-out : (l : Loader) → Demand2a l → (n : ℕ) → (n ≡ 0x44 → ⊥)
@@ -183,7 +184,7 @@ pub offsets-out : Demand2b offsetsFromFirst → ⊥
 unfolding sizeOf leadIn windowsFrom streamOf windowsNumber sumOf writeNumber-of writeNumber preambleAt headStop checkStop streamStop listStop listedOf listingOf windowStop readWindowOf windowsStop windowsOf
 offsets-out d =
     let w = d 0 6 0 0 0 0 (9 ∷ []) (11 ∷ []) (0x11 ∷ 0x22 ∷ 0x33 ∷ []) (replicate 20 0)
-    (lit< tt, (lit< tt, (lit< tt, (lit< tt, (lit< tt, (lit< tt, (lit< tt, tt))))))) refl
+    (bytes-below (0 ∷ 0 ∷ 0 ∷ 0 ∷ 0x11 ∷ 0x22 ∷ 0x33 ∷ []) refl) refl
     in
     let table : List ℕ = replicate 255 0 in
     let room : length (w .windows) ≤ length table = w .fits .few in
