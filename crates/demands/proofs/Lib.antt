@@ -6,5 +6,6 @@ pub mod files
 pub mod Demand2
 pub mod stops
 pub mod Promised
+pub mod EightDevices
 pub mod wrong
 pub mod Main

@@ -7,5 +7,4 @@ pub mod AcceptedFits
 pub mod LastByteTaken
 pub mod CheckStoresNothing
 pub mod StreamA
-pub mod EightDevices
 pub mod TwelveCases

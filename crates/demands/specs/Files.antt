@@ -11,7 +11,7 @@ use Rattle.chain.specs.Paper.{done, serial-external, serial-internal}
 use Rattle.chain.specs.Rules.{pick}
 use Rattle.chain.specs.Kinds.{sizeOf}
 use Rattle.chain.specs.Calls.{noChain}
-use Rattle.writer.specs.Stream.{leadIn}
+use Rattle.writer.specs.Stream.{leadIn, sectionOf}
 use Rattle.lister.specs.Listing.{preambleAt}
 use Rattle.demands.specs.Loader.{Loader, AfterWrite, offered, AfterList, Idle, Mode}
 use Rattle.demands.specs.Demand2.{ran, Loads}
@@ -20,10 +20,6 @@ use Rattle.grammar.specs.Fits.{SectionFits, Lets, Reading}
 use Rattle.grammar.specs.Sent.{bytesOf}
 use Rattle.grammar.specs.Stream.{Window, Section, sectionsSent, streamSent}
 use Rattle.grammar.specs.Tables.{starts, ends, offsets, cells, nulled, nullsOff}
-
--- a section from its parts
-abbrev pub sectionOf : ℕ → ℕ → ℕ → ℕ → List Window → Section
-sectionOf control a0 a1 a2 ws = record { control = control; address0 = a0; address1 = a1; address2 = a2; windows = ws }
 
 -- the data of listed windows, picked up in the stream: offsets count from position p
 abbrev pub gathered : ℕ → List ℕ → List ℕ → List ℕ → List ℕ → List ℕ
@@ -89,7 +85,7 @@ pub record Wrote (l : Loader) (kind mode : ℕ) (head : List Window → Section)
 abbrev pub Demand2b : Loader → Type 0
 Demand2b l = (kind mode control a0 a1 a2 : ℕ) (ss es d out : List ℕ) → Bytes (control ∷ a0 ∷ a1 ∷ a2 ∷ d)
     → l .write kind mode control (a0 ∷ a1 ∷ a2 ∷ []) ss es d out .written .number ≡ done
-    → Wrote l kind mode (sectionOf control a0 a1 a2) ss es d (offered (l .write kind mode control (a0 ∷ a1 ∷ a2 ∷ []) ss es d out))
+    → Wrote l kind mode (sectionOf control (a0 ∷ a1 ∷ a2 ∷ [])) ss es d (offered (l .write kind mode control (a0 ∷ a1 ∷ a2 ∷ []) ss es d out))
 
 -- written again from its listing
 abbrev pub rewritten : Loader → ℕ → ℕ → List ℕ → AfterList → List ℕ → AfterWrite

@@ -10,12 +10,12 @@ use Rattle.chain.specs.declared.Chain.{Chain}
 use Rattle.chain.specs.Paper.{serial-external, serial-internal, two-preambles, done}
 use Rattle.chain.specs.Calls.{noChain}
 use Rattle.chain.proofs.ByCases.{by-test}
-use Rattle.writer.specs.Stream.{leadIn}
+use Rattle.writer.specs.Stream.{leadIn, sectionOf}
 use Rattle.grammar.specs.Stream.{Window, Section, streamSent}
 use Rattle.grammar.specs.Sent.{bytesOf}
 use Rattle.demands.specs.Loader.{Loader, AfterList, offered}
 use Rattle.grammar.specs.Fits.{Reading}
-use Rattle.demands.specs.Files.{sectionOf, wanted, rewritten, Again}
+use Rattle.demands.specs.Files.{wanted, rewritten, Again}
 use Rattle.grammar.specs.Tables.{nulled, nullsOff, nullByte}
 use Rattle.grammar.proofs.SectionBytes.{serial-one}
 use Rattle.demands.proofs.files.WrittenLoads.{any-chain}
@@ -36,7 +36,7 @@ module _ (l : Loader) (kind mode : ℕ) (bs : List ℕ) (t : ℕ) (c : Chain) (x
   stream-is =
       ap
       (λ (ws : List Window).
-      bytesOf (streamSent noChain mode (sectionOf (x .first .control) (x .first .address0) (x .first .address1) (x .first .address2) ws) [])) z
+      bytesOf (streamSent noChain mode (sectionOf (x .first .control) (x .first .address0 ∷ x .first .address1 ∷ x .first .address2 ∷ []) ws) [])) z
       ∙ any-chain noChain c mode (x .first)
       ∙ ap (λ (ss : List Section). bytesOf (streamSent c mode (x .first) ss)) (sym one)
       ∙ x .bytes

@@ -10,7 +10,7 @@ use lib.Seq.{take-at}
 use Rattle.chain.specs.Paper.{preamble, serial-external, serial-internal, two-preambles, done}
 use Rattle.chain.specs.Kinds.{sizeOf, baseOf}
 use Rattle.chain.proofs.ByCases.{by-test}
-use Rattle.writer.specs.Stream.{leadIn, streamOf}
+use Rattle.writer.specs.Stream.{leadIn, sectionOf, streamOf}
 use Rattle.writer.specs.Write.{writeNumber}
 use Rattle.writer.proofs.Accepted.{Accepted, accepted}
 use Rattle.writer.proofs.Lengths.{front}
@@ -22,7 +22,7 @@ use Rattle.grammar.specs.Sent.{bytesOf}
 use Rattle.grammar.specs.Fits.{SectionFits}
 use Rattle.chain.specs.Bytes.{Bytes}
 use Rattle.demands.specs.Loader.{offered}
-use Rattle.demands.specs.Files.{Room, sectionOf, wanted, given, ListsAs, Wrote, Demand2b}
+use Rattle.demands.specs.Files.{Room, wanted, given, ListsAs, Wrote, Demand2b}
 use Rattle.grammar.specs.Tables.{cells, windowsFrom}
 use Rattle.demands.specs.Ours.{ours}
 use Rattle.grammar.proofs.SectionBytes.{serial-one}
@@ -57,7 +57,7 @@ module _ (kind mode control a0 a1 a2 : ℕ) (ss es d out : List ℕ) (u : Bytes 
   bs = offered (ours .write kind mode control (a0 ∷ a1 ∷ a2 ∷ []) ss es d out)
 
   abbrev section : Section
-  section = sectionOf control a0 a1 a2 (windowsFrom ss es d)
+  section = sectionOf control (a0 ∷ a1 ∷ a2 ∷ []) (windowsFrom ss es d)
 
   tells : Accepted kind mode ss es (length d) (length (streamOf mode control (a0 ∷ a1 ∷ a2 ∷ []) ss es d)) (length out)
   unfolding writeNumber
@@ -93,7 +93,7 @@ module _ (kind mode control a0 a1 a2 : ℕ) (ss es d out : List ℕ) (u : Bytes 
       (append-nil (bytesOf (streamSent noChain mode section [])))
       (listed kind mode noChain section [] section-fits (tells .known) (record { least = tells .least; most = tells .most }) ts te to (room .starts) (room .ends) (room .offsets)))
 
-  wrote : Wrote ours kind mode (sectionOf control a0 a1 a2) ss es d bs
+  wrote : Wrote ours kind mode (sectionOf control (a0 ∷ a1 ∷ a2 ∷ [])) ss es d bs
   wrote =
       record {
         windows = windowsFrom ss es d;

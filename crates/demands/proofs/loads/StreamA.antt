@@ -14,7 +14,8 @@ use Rattle.grammar.specs.Sent.{bytesOf}
 use Rattle.grammar.specs.Fits.{SectionsFit, Fitting, Reading}
 use Rattle.chain.specs.Bytes.{Bytes}
 use Rattle.demands.specs.Loader.{Idle, Mode}
-use Rattle.demands.specs.Files.{sectionOf}
+use Rattle.writer.specs.Stream.{sectionOf}
+use Rattle.demands.proofs.ByteLists.{bytes-below}
 
 abbrev pub teaching : Chain
 teaching = record { count = 1; kinds = replicate 8 0; registers = replicate 8 0; place = closedPlace }
@@ -26,7 +27,7 @@ abbrev pub windowA : Window
 windowA = record { null = 0; start = 9; end = 11; bytes = 0x11 ∷ 0x22 ∷ 0x33 ∷ [] }
 
 abbrev pub sectionA : Section
-sectionA = sectionOf 0 0 0 0 (windowA ∷ [])
+sectionA = sectionOf 0 (0 ∷ 0 ∷ 0 ∷ []) (windowA ∷ [])
 
 abbrev pub streamA : List ℕ
 streamA = 0xb2 ∷ 0 ∷ 0 ∷ 0 ∷ 0 ∷ 0xfe ∷ 0 ∷ 0 ∷ 9 ∷ 0 ∷ 11 ∷ 0x11 ∷ 0x22 ∷ 0x33 ∷ 0x4d ∷ []
@@ -44,7 +45,7 @@ pub mode-one : Mode 1
 mode-one = record { least = omega arith; most = omega arith }
 
 pub small-A : Bytes streamA
-small-A = (lit< tt, (lit< tt, (lit< tt, (lit< tt, (lit< tt, (lit< tt, (lit< tt, (lit< tt, (lit< tt, (lit< tt, (lit< tt, (lit< tt, (lit< tt, (lit< tt, (lit< tt, tt)))))))))))))))
+small-A = bytes-below streamA refl
 
 pub sections-A : SectionsFit teaching 0 sectionA []
 unfolding sizeOf

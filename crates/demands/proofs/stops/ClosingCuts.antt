@@ -26,7 +26,7 @@ use Rattle.chain.specs.Bytes.{Bytes}
 use Rattle.demands.specs.Loader.{offered}
 use Rattle.demands.specs.Demand2.{slices, joined}
 use Rattle.demands.specs.Ours.{ours}
-use Rattle.demands.proofs.ByteLists.{bytes-at, bytes-drop}
+use Rattle.demands.proofs.ByteLists.{bytes-at, bytes-drop, bytes-below}
 use Rattle.chain.proofs.Bytes.{bytes-append, bytes-front, bytes-take}
 use Rattle.demands.proofs.loads.Cuts.{front-open}
 use Rattle.demands.proofs.loads.LoadRuns.{open-front, slices-join}
@@ -66,13 +66,14 @@ pick-small : (k : Bool) (xs ys : List ℕ) → Bytes xs → Bytes ys → Bytes (
 pick-small true xs ys u v = u
 pick-small false xs ys u v = v
 
-abbrev Rows : List (Row (List ℕ)) → Type 0
-Rows [] = Unit {0}
-Rows ((n ⇒ x) ∷ rows) = Bytes x × Rows rows
+infixr 20 _and_
+data Rows : List (Row (List ℕ)) → Type 0 where
+  none : Rows []
+  _and_ : {n : ℕ} {x : List ℕ} {rows : List (Row (List ℕ))} → Bytes x → Rows rows → Rows ((n ⇒ x) ∷ rows)
 
 row-small : (a : ℕ) (rows : List (Row (List ℕ))) → Rows rows → Bytes (rowOf a rows [])
-row-small a [] u = tt
-row-small a ((n ⇒ x) ∷ rows) u = pick-small (eqb a n) x (rowOf a rows []) (u .0) (row-small a rows (u .1))
+row-small a [] none = tt
+row-small a ((n ⇒ x) ∷ rows) (u and us) = pick-small (eqb a n) x (rowOf a rows []) u (row-small a rows us)
 
 low-small : (p : Place) → endLow p < 256
 low-small p = by-test (eqb (p .end / 256) (p .start / 256)) (λ e. rw e (mod-lt (p .start) (lit< tt))) (λ e. rw e (lit< tt))
@@ -85,6 +86,18 @@ module _ (c : Chain) (m : List ℕ) (g : Bytes (c .registers)) (u : Bytes m) whe
   window-small first last =
       bytes-append (take (last - first + 1) (drop (baseOf (c .kinds) (c .place .device) + first) m)) (tail (c .place))
       (bytes-take (last - first + 1) (drop (baseOf (c .kinds) (c .place .device) + first) m) (bytes-drop (baseOf (c .kinds) (c .place .device) + first) m u)) tail-small
+
+  head-small : Bytes (storedRegister c ∷ 0x00 ∷ 0x00 ∷ 0x00 ∷ no-windows ∷ postamble ∷ [])
+  head-small = (bytes-at (c .registers) g (c .place .device), bytes-below (0x00 ∷ 0x00 ∷ 0x00 ∷ no-windows ∷ postamble ∷ []) refl)
+
+  start-small : Bytes (afterStart c)
+  start-small = (lit< tt, pick-small (ltb (withFF (c .place .start)) (sizeHere c)) (0xff ∷ 0xff ∷ []) [] (lit< tt, (lit< tt, tt)) tt)
+
+  end-small : Bytes (afterEnd c m)
+  end-small =
+      let last = c .place .end / 256 * 256 + endLow (c .place) in
+      pick-small (refusesFF c) (0xff ∷ []) (endLow (c .place) ∷ window c m (c .place .start) last) (lit< tt, tt)
+      (low-small (c .place), window-small (c .place .start) last)
 
   abbrev rows : List (Row (List ℕ))
   rows = (let p = c .place in
@@ -104,49 +117,27 @@ module _ (c : Chain) (m : List ℕ) (g : Bytes (c .registers)) (u : Bytes m) whe
       ∷ (at·data ⇒ window c m (p .next) (p .end))
       ∷ [])
 
+  small-rows : Rows rows
+  small-rows =
+      bytes-below (0x00 ∷ []) refl
+      and bytes-below (0x00 ∷ []) refl
+      and head-small
+      and bytes-below (0x00 ∷ 0x00 ∷ 0x00 ∷ no-windows ∷ postamble ∷ []) refl
+      and bytes-below (0x00 ∷ 0x00 ∷ no-windows ∷ postamble ∷ []) refl
+      and bytes-below (0x00 ∷ no-windows ∷ postamble ∷ []) refl
+      and bytes-below (no-windows ∷ postamble ∷ []) refl
+      and bytes-below (postamble ∷ []) refl
+      and bytes-below (0x00 ∷ 0xff ∷ 0xff ∷ []) refl
+      and bytes-below (0xff ∷ 0xff ∷ []) refl
+      and start-small
+      and bytes-below (0xff ∷ 0xff ∷ []) refl
+      and end-small
+      and window-small (c .place .next) (c .place .end)
+      and none
+
   pub closing-small : Bytes (closingBytes c m)
   unfolding closingBytes
-  closing-small =
-      row-small (c .place .awaited) rows (
-        (lit< tt, tt),
-        (
-          (lit< tt, tt),
-          (
-            (bytes-at (c .registers) g (c .place .device), (lit< tt, (lit< tt, (lit< tt, (lit< tt, (lit< tt, tt)))))),
-            (
-              (lit< tt, (lit< tt, (lit< tt, (lit< tt, (lit< tt, tt))))),
-              (
-                (lit< tt, (lit< tt, (lit< tt, (lit< tt, tt)))),
-                (
-                  (lit< tt, (lit< tt, (lit< tt, tt))),
-                  (
-                    (lit< tt, (lit< tt, tt)),
-                    (
-                      (lit< tt, tt),
-                      (
-                        (lit< tt, (lit< tt, (lit< tt, tt))),
-                        (
-                          (lit< tt, (lit< tt, tt)),
-                          (
-                            (lit< tt, pick-small (ltb (withFF (c .place .start)) (sizeHere c)) (0xff ∷ 0xff ∷ []) [] (lit< tt, (lit< tt, tt)) tt),
-                            (
-                              (lit< tt, (lit< tt, tt)),
-                              (
-                                pick-small (refusesFF c) (0xff ∷ []) (endLow (c .place) ∷ window c m (c .place .start) (c .place .end / 256 * 256 + endLow (c .place))) (lit< tt, tt) (low-small (c .place), window-small (c .place .start) (c .place .end / 256 * 256 + endLow (c .place))),
-                                (window-small (c .place .next) (c .place .end), tt),
-                              ),
-                            ),
-                          ),
-                        ),
-                      ),
-                    ),
-                  ),
-                ),
-              ),
-            ),
-          ),
-        ),
-      )
+  closing-small = row-small (c .place .awaited) rows small-rows
 
 -- ---- cut into slices
 

@@ -15,7 +15,7 @@ use Rattle.chain.specs.State.{badChain, unusedZero, wellFormed, illFormed, stat
 use Rattle.machine.specs.Byte.{numberOf, passedOf, advanceOf}
 use Rattle.machine.specs.Run.{addressOf, memoryOf, registersOf, missedOf, stepOf, runOf}
 use Rattle.machine.specs.Calls.{startNumber, startOf, fedOf, sliceOf, sliceMemory}
-use Rattle.writer.specs.Stream.{leadIn, streamOf}
+use Rattle.writer.specs.Stream.{leadIn, streamOf, sectionOf}
 use Rattle.writer.specs.Write.{windowsNumber, sumOf, numberOf as writeNumber-of, writeNumber}
 use Rattle.lister.specs.Windows.{windowStop, readWindowOf, windowsStop, windowsOf}
 use Rattle.lister.specs.Listing.{preambleAt, headStop, checkStop, streamStop, listStop, listedOf, listingOf}
@@ -28,13 +28,14 @@ use Rattle.demands.specs.Loader.{Loader, Idle, Mode}
 use Rattle.grammar.specs.Fits.{Fitting}
 use Rattle.demands.specs.Demand2.{joined, ran, Demand2a, Demand2d, Demand2e, Demand2f}
 use Rattle.demands.specs.Demand3.{Whole, Demand3}
-use Rattle.demands.specs.Files.{sectionOf, Demand2b}
+use Rattle.demands.specs.Files.{Demand2b}
 use Rattle.grammar.specs.Tables.{starts, offsets, windowsFrom}
 use Rattle.demands.specs.Ours.{ours}
 use Rattle.demands.specs.Wrong.{undoing, exclusiveEnd, plainCount, barring, checkWrites, earlierWins, shortClosing, offsetsFromFirst}
 use Rattle.grammar.proofs.FitsAccepted.{first-lets}
 use Rattle.demands.proofs.loads.StreamA.{teaching, cells0, windowA, sectionA, zeros-bytes, idle-teaching, mode-one, fits-A, streamA, small-A, reading-A}
 use Rattle.demands.proofs.wrong.Shut.{whole-seen}
+use Rattle.demands.proofs.ByteLists.{bytes-below}
 
 -- ---- an end taken as exclusive: A then leaves cell 11
 
@@ -63,7 +64,7 @@ plain-count-out d = plain-out plainCount d refl
 -- ---- B4 applied to the stream that sets it
 
 abbrev sectionC : Section
-sectionC = sectionOf 0x10 0 0 0 []
+sectionC = sectionOf 0x10 (0 ∷ 0 ∷ 0 ∷ []) []
 
 fits-C : Fitting teaching writing 1 sectionC []
 unfolding sizeOf
@@ -71,7 +72,7 @@ fits-C =
     record {
       fits = (omega arith, record { few = omega arith; fit = tt });
       lets = record { b4 = refl; b3 = λ e. refl; sent-b3 = λ e. refl };
-      bytes = unfold baseOf in (lit< tt, (lit< tt, (lit< tt, (lit< tt, (lit< tt, (lit< tt, (lit< tt, tt)))))));
+      bytes = unfold baseOf in bytes-below (bytesOf (streamSent teaching 1 sectionC [])) refl;
     }
 
 pub own-bar-out : (l : Loader) → Demand2a l → (n : ℕ) → (n ≡ done → ⊥)
@@ -119,7 +120,7 @@ check-writes-accepts-out d = check-accepts-out checkWrites d disabled cells0 che
 -- ---- overlaps follow stream order: 9..11 as in A, then 10..10 = 44
 
 abbrev overlap : Section
-overlap = sectionOf 0 0 0 0 (windowA ∷ record { null = 0; start = 10; end = 10; bytes = 0x44 ∷ [] } ∷ [])
+overlap = sectionOf 0 (0 ∷ 0 ∷ 0 ∷ []) (windowA ∷ record { null = 0; start = 10; end = 10; bytes = 0x44 ∷ [] } ∷ [])
 
 fits-overlap : Fitting teaching writing 1 overlap []
 unfolding sizeOf
@@ -133,7 +134,7 @@ fits-overlap =
         },
       );
       lets = record { b4 = refl; b3 = λ e. refl; sent-b3 = λ e. refl };
-      bytes = unfold baseOf in (lit< tt, (lit< tt, (lit< tt, (lit< tt, (lit< tt, (lit< tt, (lit< tt, (lit< tt, (lit< tt, (lit< tt, (lit< tt, (lit< tt, (lit< tt, (lit< tt, (lit< tt, (lit< tt, (lit< tt, (lit< tt, (lit< tt, (lit< tt, (lit< tt, tt)))))))))))))))))))));
+      bytes = unfold baseOf in bytes-below (bytesOf (streamSent teaching 1 overlap [])) refl;
     }
 
 pub overlaps-out : (l : Loader) → Demand2a l → (n : ℕ) → (n ≡ 0x44 → ⊥)
@@ -183,7 +184,7 @@ pub offsets-out : Demand2b offsetsFromFirst → ⊥
 unfolding sizeOf leadIn windowsFrom streamOf windowsNumber sumOf writeNumber-of writeNumber preambleAt headStop checkStop streamStop listStop listedOf listingOf windowStop readWindowOf windowsStop windowsOf
 offsets-out d =
     let w = d 0 6 0 0 0 0 (9 ∷ []) (11 ∷ []) (0x11 ∷ 0x22 ∷ 0x33 ∷ []) (replicate 20 0)
-    (lit< tt, (lit< tt, (lit< tt, (lit< tt, (lit< tt, (lit< tt, (lit< tt, tt))))))) refl
+    (bytes-below (0 ∷ 0 ∷ 0 ∷ 0 ∷ 0x11 ∷ 0x22 ∷ 0x33 ∷ []) refl) refl
     in
     let table : List ℕ = replicate 255 0 in
     let room : length (w .windows) ≤ length table = w .fits .few in

@@ -1,12 +1,11 @@
 -- Instances of what the demands suppose: eight devices in mode 6, with left-over registers and a left-over place, a section with no window,
 -- windows that overlap, control bits set in the last section; as a write and as a check. By clause (a) each loads. Assumes nothing.
-use Prim.Native.Nat.{ℕ, _<_}
+use Prim.Native.Nat.{ℕ}
 use mathlib.Core.Bool.{true, false, true≢false}
-use mathlib.Core.Path.{_≡_, refl, sym, subst}
+use mathlib.Core.Path.{_≡_, refl, ap, sym}
 use mathlib.Core.List.{List, [], _∷_}
 use native.Mathlib.Omega.{arith}
 use lib.ListN.{replicate, take}
-use lib.Dec.{lit<}
 use Rattle.chain.specs.declared.Chain.{Chain}
 use Rattle.chain.specs.Kinds.{sizeOf, baseOf, knownOf}
 use Rattle.chain.specs.Paper.{writing, checking, done}
@@ -21,10 +20,13 @@ use Rattle.grammar.specs.Sent.{bytesOf}
 use Rattle.demands.specs.Loader.{Idle, Mode}
 use Rattle.demands.specs.Demand2.{Loads, ran}
 use Rattle.demands.specs.Demand3.{Whole}
-use Rattle.demands.specs.Files.{sectionOf}
+use Rattle.writer.specs.Stream.{sectionOf}
+use Rattle.demands.specs.Files.{Room, Again}
 use Rattle.demands.specs.Ours.{ours}
 use Rattle.demands.proofs.loads.FittingLoads.{second-a}
+use Rattle.demands.proofs.files.AcceptedAgain.{second-c}
 use Rattle.demands.proofs.loads.StreamA.{zeros-bytes}
+use Rattle.demands.proofs.ByteLists.{bytes-below}
 
 -- eight teaching arrays, with registers left over (all bits but B4 in the third, which is not met, B0 in the last) and a place left over
 abbrev pub eight : Chain
@@ -33,14 +35,14 @@ eight = record { count = 8; kinds = replicate 8 0; registers = 0 ∷ 0 ∷ 0xef 
 pub idle-eight : Idle eight (replicate 416 0)
 unfolding stateNumber badChain illFormed unusedZero wellFormed knownOf baseOf sizeOf
 idle-eight =
-    record { kinds = refl; registers = refl; register-bytes = (lit< tt, (lit< tt, (lit< tt, (lit< tt, (lit< tt, (lit< tt, (lit< tt, (lit< tt, tt)))))))); memory-bytes = zeros-bytes 416; sound = refl; closed-place = refl }
+    record { kinds = refl; registers = refl; register-bytes = bytes-below (eight .registers) refl; memory-bytes = zeros-bytes 416; sound = refl; closed-place = refl }
 
 abbrev pub none : Section
-none = sectionOf 0 0 0 0 []
+none = sectionOf 0 (0 ∷ 0 ∷ 0 ∷ []) []
 
 abbrev pub two : ℕ → Section
 two control =
-    sectionOf control 1 2 3
+    sectionOf control (1 ∷ 2 ∷ 3 ∷ [])
     (record { null = 7; start = 9; end = 11; bytes = 0x11 ∷ 0x22 ∷ 0x33 ∷ [] }
     ∷ record { null = 0xb2; start = 10; end = 10; bytes = 0x44 ∷ [] }
     ∷ [])
@@ -52,8 +54,7 @@ fits-write =
     record {
       fits = (omega arith, record { few = omega arith; fit = tt }, refl, (omega arith, record { few = omega arith; fit = (record { order = omega arith; inside = omega arith; full = refl }, (record { order = omega arith; inside = omega arith; full = refl }, tt)) }));
       lets = (record { b4 = refl; b3 = λ e. refl; sent-b3 = λ e. refl }, record { b4 = refl; b3 = λ e. refl; sent-b3 = no });
-      bytes = unfold baseOf in
-          (lit< tt, (lit< tt, (lit< tt, (lit< tt, (lit< tt, (lit< tt, (lit< tt, (lit< tt, (lit< tt, (lit< tt, (lit< tt, (lit< tt, (lit< tt, (lit< tt, (lit< tt, (lit< tt, (lit< tt, (lit< tt, (lit< tt, (lit< tt, (lit< tt, (lit< tt, (lit< tt, (lit< tt, (lit< tt, (lit< tt, (lit< tt, (lit< tt, tt))))))))))))))))))))))))))));
+      bytes = unfold baseOf in bytes-below (bytesOf (streamSent eight 6 none (two 0x1c ∷ []))) refl;
     }
   where
     no : {A : Type 0} → true ≡ false → A
@@ -66,8 +67,7 @@ fits-check =
     record {
       fits = (omega arith, record { few = omega arith; fit = tt }, refl, (omega arith, record { few = omega arith; fit = (record { order = omega arith; inside = omega arith; full = refl }, (record { order = omega arith; inside = omega arith; full = refl }, tt)) }));
       lets = (record { b4 = refl; b3 = λ e. refl; sent-b3 = λ e. refl }, record { b4 = refl; b3 = λ e. refl; sent-b3 = λ e. refl });
-      bytes = unfold baseOf in
-          (lit< tt, (lit< tt, (lit< tt, (lit< tt, (lit< tt, (lit< tt, (lit< tt, (lit< tt, (lit< tt, (lit< tt, (lit< tt, (lit< tt, (lit< tt, (lit< tt, (lit< tt, (lit< tt, (lit< tt, (lit< tt, (lit< tt, (lit< tt, (lit< tt, (lit< tt, (lit< tt, (lit< tt, (lit< tt, (lit< tt, (lit< tt, (lit< tt, tt))))))))))))))))))))))))))));
+      bytes = unfold baseOf in bytes-below (bytesOf (streamSent eight 6 none (two 0x04 ∷ []))) refl;
     }
 
 pub mode-six : Mode 6
@@ -93,7 +93,7 @@ abbrev one-stream : List ℕ
 one-stream = bytesOf (streamSent eight 6 (two 0x0c) [])
 
 one-small : Bytes one-stream
-one-small = (lit< tt, (lit< tt, (lit< tt, (lit< tt, (lit< tt, (lit< tt, (lit< tt, (lit< tt, (lit< tt, (lit< tt, (lit< tt, (lit< tt, (lit< tt, (lit< tt, (lit< tt, (lit< tt, (lit< tt, (lit< tt, (lit< tt, (lit< tt, (lit< tt, (lit< tt, tt))))))))))))))))))))))
+one-small = bytes-below one-stream refl
 
 one-fits : SectionsFit eight 0 (two 0x0c) []
 unfolding sizeOf
@@ -109,4 +109,11 @@ unfolding sizeOf baseOf knownOf badChain unusedZero wellFormed illFormed stateNu
 one-taken = refl
 
 one-reading : Reading eight 6 (take (ran ours writing 6 eight (replicate 416 0) [] one-stream .fed .answer .taken) one-stream)
-one-reading = subst (λ (n : ℕ). Reading eight 6 (take n one-stream)) (sym one-taken) (record { first = two 0x0c; others = []; fits = one-fits; bytes = refl })
+one-reading = record { first = two 0x0c; others = []; fits = one-fits; bytes = ap (λ (n : ℕ). take n one-stream) (sym one-taken) }
+
+-- so it lists as that section, and is written again from its listing
+pub one-again : (ts te to : List ℕ) → Room 2 ts te to
+    → Again ours 0 6 one-stream (ran ours writing 6 eight (replicate 416 0) [] one-stream .fed .answer .taken) (two 0x0c) (ours .list 0 6 one-stream ts te to)
+unfolding one-reading
+one-again ts te to room =
+    second-c eight (replicate 416 0) writing 6 one-stream ts te to idle-eight mode-six one-small one-accepted one-reading refl room
