@@ -27,20 +27,21 @@ use Rattle.demands.proofs.wrong.Shut.{constant-out, idle-out, taken-out
 use Rattle.demands.proofs.wrong.Eager.{eager-out}
 use Rattle.demands.proofs.wrong.Readings.{exclusive-end-out, plain-count-out, barring-out, check-writes-out, earlier-wins-out, undoing-out, short-closing-out, offsets-out}
 
--- 1. It takes every byte string, mode, chain and saved place. Each call gives each number exactly when the paper's condition for it holds
--- and none before it does, and what each refusal leaves is fixed
+-- 1. 'It takes every byte string, mode, chain and saved place. Public calls ask nothing of the caller. Each refusal has its number in
+-- document 01, given exactly under the condition there, and the state, memory and output it leaves are fixed.'
 pub every-input : Demand1
 every-input = demand1
 
--- 2. It loads and checks as the maker's AT6000 configuration guide says: (a) Demand2a, a stream that fits loads or is checked as its windows
--- say, in any cut and whatever follows it; (b) Demand2b, what is written is such a stream, lists as its windows and loads; (c) Demand2c, what
--- is accepted lists as its section and is written again from that; (d) Demand2d, the byte that ends a run is taken and changes nothing;
--- (e) Demand2e, what is accepted fits and was let in; (f) Demand2f, a check stores nothing
+-- 2. 'It loads and checks as the maker's AT6000 configuration guide says, in the reading of document 01' (a), (d), (e), (f). 'A stream written
+-- from a window list loads, where B4 was clear before, as those windows, later over earlier, and lists as the same windows' (b); 'an accepted
+-- one-device stream, listed and written again, gives its own bytes up to its postamble, lead-in and null bytes apart' (c)
 pub loads-and-checks : Demand2 ours
 loads-and-checks = demand2
 
--- 3. Take a stream that would load whole as a write, B4 clear in its control bytes, and stop it after any number of bytes: the closing
--- bytes, in any cut, end the run and change nothing, and the same stream started afresh leaves what the unbroken load leaves
+-- 3. 'Take a stream that would load whole as a write into this chain and ends at its postamble, with bit B4 clear in every control byte. Stop
+-- it after any number of bytes short of its end. Every cell that no data byte has reached holds its old value, every other the last byte sent
+-- to it. The closing bytes we offer, sent next, end the run and change no cell and no control register. The same stream, started afresh in
+-- the same mode, then leaves the memories and registers of an unbroken load.'
 pub every-stop : Demand3 ours
 every-stop = demand3
 
