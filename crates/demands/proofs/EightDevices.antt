@@ -7,6 +7,8 @@ use mathlib.Core.List.{List, [], _∷_}
 use native.Mathlib.Omega.{arith}
 use lib.ListN.{replicate, take}
 use Rattle.chain.specs.declared.Chain.{Chain}
+use Rattle.chain.specs.declared.Place.{Place}
+use Rattle.chain.specs.Set.{with·mode, with·check, with·device, with·awaited, with·start, with·next, with·taken, closedPlace}
 use Rattle.chain.specs.Kinds.{sizeOf, baseOf, knownOf}
 use Rattle.chain.specs.Paper.{writing, checking, done}
 use Rattle.chain.specs.State.{badChain, unusedZero, wellFormed, illFormed, stateNumber, feedNumber}
@@ -29,8 +31,11 @@ use Rattle.demands.proofs.loads.StreamA.{zeros-bytes}
 use Rattle.demands.proofs.ByteLists.{bytes-below}
 
 -- eight teaching arrays, with registers left over (all bits but B4 in the third, which is not met, B0 in the last) and a place left over
+abbrev leftOver : Place
+leftOver = with·taken (with·next (with·start (with·awaited (with·device (with·check (with·mode closedPlace 9) 3) 200) 77) 3) 5) 6
+
 abbrev pub eight : Chain
-eight = record { count = 8; kinds = replicate 8 0; registers = 0 ∷ 0 ∷ 0xef ∷ 0 ∷ 0 ∷ 0 ∷ 0 ∷ 1 ∷ []; place = record { running = 0; mode = 9; check = 3; device = 200; awaited = 77; left = 1; control = 2; start = 3; end = 4; next = 5; taken = 6; mismatches = 7 } }
+eight = record { count = 8; kinds = replicate 8 0; registers = 0 ∷ 0 ∷ 0xef ∷ 0 ∷ 0 ∷ 0 ∷ 0 ∷ 1 ∷ []; place = leftOver }
 
 pub idle-eight : Idle eight (replicate 416 0)
 unfolding stateNumber badChain illFormed unusedZero wellFormed knownOf baseOf sizeOf
