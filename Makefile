@@ -1,5 +1,5 @@
 # make demo   lists a sample stream, then runs a controller's main loop in C: stop, close, start afresh; save, drop, pick up
-# make test   what the documents cite, header, C example, comparison with the model, stack, listing program on its inputs; then every proof, must-fail edit and program, from nothing: the last line is rt's own
+# make test   every proof, must-fail edit and program from nothing; then what the documents cite, header, C example, comparison with the model, stack, listing program: the last line is rt's own
 # make lib    the archive for C: target/staticlib/libat6000.a
 # make bench  the archive against safe Rust and memcpy (docs/SPEED.md)
 # make fmt    lay out the Rattle sources
@@ -13,16 +13,8 @@ demo: lib
 	sh examples/list.sh $(listing)
 	sh examples/run.sh $(archive)
 
-test: lib
-	python3 tests/docs/cited.py
-	python3 tests/docs/count.py
-	sh tests/header/run.sh
-	sh examples/run.sh $(archive) | diff examples/controller.out -
-	sh tests/compare/run.sh $(archive)
-	sh tests/stack/run.sh $(archive)
-	rt check listing
-	sh tests/listing/run.sh $(listing)
-	rt ci
+test:
+	sh tests/gate.sh
 
 lib:
 	rt staticlib at6000
