@@ -5,3 +5,4 @@ pub mod Ends
 pub mod Rows
 pub mod Sound
 pub mod Closes
+pub mod AreBytes

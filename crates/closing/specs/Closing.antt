@@ -7,7 +7,7 @@ use lib.Dec.{eqb, ltb}
 use Rattle.chain.specs.declared.Chain.{Chain}
 use Rattle.chain.specs.declared.Place.{Place}
 use Rattle.chain.specs.Paper.{postamble, no-windows, at·preamble, at·second, at·control, at·address, at·address2, at·address3, at·count, at·null, at·start, at·start-low, at·end, at·end-low, at·data, at·check}
-use Rattle.chain.specs.Rules.{pick, _⇒_, rowOf}
+use Rattle.chain.specs.Rules.{pick, Row, _⇒_, rowOf}
 use Rattle.chain.specs.Kinds.{baseOf, sizeHere}
 use Rattle.chain.specs.Window.{highByte, lowByte, withLow, widthOf, endOutside}
 
@@ -45,11 +45,11 @@ afterEnd c m =
     let p = c .place in
     pick (refusesFF c) (0xff ∷ []) (endLow p ∷ window c m (p .start) (withLow (p .end) (endLow p)))
 
-unfoldable pub closingBytes : Chain → List ℕ → List ℕ
-closingBytes c m =
+-- by awaited byte
+abbrev pub closingRows : Chain → List ℕ → List (Row (List ℕ))
+closingRows c m =
     let p = c .place in
-    rowOf (p .awaited)
-    ((at·preamble ⇒ 0x00 ∷ [])
+    (at·preamble ⇒ 0x00 ∷ [])
     ∷ (at·second ⇒ 0x00 ∷ [])
     ∷ (at·control ⇒ storedRegister c ∷ 0x00 ∷ 0x00 ∷ 0x00 ∷ no-windows ∷ postamble ∷ [])
     ∷ (at·address ⇒ 0x00 ∷ 0x00 ∷ 0x00 ∷ no-windows ∷ postamble ∷ [])
@@ -63,4 +63,7 @@ closingBytes c m =
     ∷ (at·end ⇒ 0xff ∷ 0xff ∷ [])
     ∷ (at·end-low ⇒ afterEnd c m)
     ∷ (at·data ⇒ window c m (p .next) (p .end))
-    ∷ []) []
+    ∷ []
+
+unfoldable pub closingBytes : Chain → List ℕ → List ℕ
+closingBytes c m = rowOf (c .place .awaited) (closingRows c m) []

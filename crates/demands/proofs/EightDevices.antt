@@ -28,7 +28,7 @@ use Rattle.demands.specs.Ours.{ours}
 use Rattle.demands.proofs.loads.FittingLoads.{second-a}
 use Rattle.demands.proofs.files.AcceptedAgain.{second-c}
 use Rattle.demands.proofs.loads.StreamA.{zeros-bytes}
-use Rattle.demands.proofs.ByteLists.{bytes-below}
+use Rattle.chain.proofs.Bytes.{bytes-below}
 
 -- eight teaching arrays, with registers left over (all bits but B4 in the third, which is not met, B0 in the last) and a place left over
 abbrev leftOver : Place

@@ -1,6 +1,5 @@
 pub mod numbers
 pub mod Demand1
-pub mod ByteLists
 pub mod loads
 pub mod files
 pub mod Demand2

@@ -16,7 +16,7 @@ use Rattle.chain.proofs.ByCases.{by-test}
 use Rattle.machine.specs.Byte.{awaits, numberOf}
 use Rattle.machine.specs.Run.{writes, memoryOf, Run, run, wentOn, runOf}
 use Rattle.machine.proofs.Runs.{run-went, run-ended}
-use Rattle.machine.proofs.Blind.{blind}
+use Rattle.grammar.proofs.runs.Blind.{blind}
 use Rattle.grammar.specs.Sent.{Sent, bytesOf}
 use Rattle.grammar.specs.Stores.{aim, walkOf}
 use Rattle.grammar.proofs.Walk.{walk-on, walk-over}

@@ -9,7 +9,7 @@ use lib.Dec.{eqb}
 use lib.ListN.{length, getD, set}
 use borrow.Author.Tests.{eqb-true}
 use Rattle.chain.specs.declared.Chain.{Chain}
-use Rattle.chain.specs.Paper.{preamble, postamble, no-windows, at·control, at·data, at·check, writing, checking, most-devices, two-preambles, more, B3, B4}
+use Rattle.chain.specs.Paper.{preamble, no-windows, at·control, at·data, writing, checking, most-devices, more, B3, B4}
 use Rattle.chain.specs.Rules.{pick}
 use Rattle.chain.specs.Set.{with·place}
 use Rattle.chain.proofs.ByCases.{by-test}
@@ -19,10 +19,11 @@ use Rattle.chain.proofs.Sound.{Sound}
 use Rattle.machine.specs.Byte.{awaits, begins, registerBegun, byteRules, numberOf}
 use Rattle.machine.specs.Run.{writes, registersOf, wentOn}
 use Rattle.machine.specs.Calls.{openedPlace}
-use Rattle.machine.proofs.Keeps.{went-sound}
+use Rattle.grammar.proofs.EachSent.{Each, each-lead, each-windows}
+use Rattle.grammar.proofs.runs.Keeps.{went-sound}
 use Rattle.machine.proofs.Runs.{registers-length}
-use Rattle.machine.proofs.Stays.{went-stays}
-use Rattle.grammar.specs.Stream.{baseAt, Window, Section, dataSent, windowSent, windowsSent, sectionsSent, leadSent, streamSent}
+use Rattle.grammar.proofs.runs.Stays.{went-stays}
+use Rattle.grammar.specs.Stream.{baseAt, Window, Section, windowsSent, sectionsSent, leadSent, streamSent}
 use Rattle.grammar.specs.Sent.{Target, framing, register, cell, Sent, frame, registers, slot}
 use Rattle.chain.specs.Bytes.{Bytes}
 use Rattle.grammar.specs.Fits.{Lets, AllLet}
@@ -118,21 +119,10 @@ walk-let (b ∷ x ∷ bs) c len s l u (next e a) =
 
 -- bytes for no register
 abbrev Plain : List Sent → Type 0
-Plain [] = Unit {0}
-Plain (x ∷ xs) = (slot registers (x .to) ≡ slot registers framing) × Plain xs
-
-plain-both : (xs ys : List Sent) → Plain xs → Plain ys → Plain (xs ++ ys)
-plain-both [] ys p q = q
-plain-both (x ∷ xs) ys p q = (p .0, plain-both xs ys (p .1) q)
-
-plain-data : (i : ℕ) (bs : List ℕ) → Plain (dataSent i bs)
-plain-data i [] = tt
-plain-data i (b ∷ bs) = (refl, plain-data (suc i) bs)
+Plain = Each (λ t b. slot registers t ≡ slot registers framing)
 
 plain-windows : (base : ℕ) (ws : List Window) → Plain (windowsSent base ws)
-plain-windows base [] = tt
-plain-windows base (w ∷ ws) =
-    plain-both (windowSent base w) (windowsSent base ws) (refl, (refl, (refl, (refl, (refl, plain-data (base + w .start) (w .bytes)))))) (plain-windows base ws)
+plain-windows = each-windows (λ t b. slot registers t ≡ slot registers framing) (λ b. refl) (λ i b. refl)
 
 same-registers : (w : Bool) (g : List ℕ) (t : Target) (b : ℕ) → slot registers t ≡ slot registers framing → then-registers w g t b ≡ g
 same-registers true g t b e = rw e refl
@@ -161,11 +151,7 @@ sections-let c check g d s (t ∷ ts) h =
     )
 
 plain-lead : (mode : ℕ) → Plain (leadSent mode)
-plain-lead mode = either (eqb mode two-preambles)
-  where
-    either : (k : Bool) → Plain (pick k (frame preamble ∷ frame preamble ∷ []) (frame preamble ∷ []))
-    either true = (refl, (refl, tt))
-    either false = (refl, tt)
+plain-lead = each-lead (λ t b. slot registers t ≡ slot registers framing) (λ b. refl)
 
 -- ---- a run from its start
 

@@ -1,3 +1,5 @@
+pub mod runs
+pub mod EachSent
 pub mod OtherRegisters
 pub mod Walk
 pub mod LastByte

@@ -1,16 +1,17 @@
 -- Control bytes with B4 clear bar nothing: after any part of such a stream the registers bar no more than before. Assumes nothing.
-use Prim.Native.Nat.{ℕ, zero, suc, _+_}
+use Prim.Native.Nat.{ℕ, suc}
 use mathlib.Core.Bool.{Bool, true, false}
 use mathlib.Core.Path.{_≡_, refl}
-use mathlib.Core.List.{List, [], _∷_, _++_}
+use mathlib.Core.List.{List, [], _∷_}
 use lib.Dec.{eqb, ltb}
 use lib.ListN.{length, getD, take}
 use Rattle.chain.specs.declared.Chain.{Chain}
-use Rattle.chain.specs.Paper.{preamble, postamble, two-preambles, B4}
+use Rattle.chain.specs.Paper.{preamble, postamble, B4}
 use Rattle.chain.specs.Rules.{pick}
-use Rattle.grammar.specs.Stream.{baseAt, Window, Section, dataSent, windowSent, windowsSent, sectionSent, sectionsSent, leadSent, streamSent}
+use Rattle.grammar.specs.Stream.{baseAt, Section, sectionSent, sectionsSent, leadSent, streamSent}
 use Rattle.grammar.specs.Sent.{Target, framing, register, cell, Sent, frame, registers, index, slot, after}
 use Rattle.grammar.specs.Fits.{Clear}
+use Rattle.grammar.proofs.EachSent.{Each, each-append, each-take, each-lead, each-windows}
 use Rattle.grammar.proofs.Walk.{put, putAll}
 use Rattle.grammar.proofs.SameWay.{Freer, getD-any}
 
@@ -21,8 +22,7 @@ UnbarredAt (register d) b = B4 b ≡ false
 UnbarredAt (cell i) b = Unit {0}
 
 abbrev pub Unbarred : List Sent → Type 0
-Unbarred [] = Unit {0}
-Unbarred (x ∷ xs) = UnbarredAt (x .to) (x .byte) × Unbarred xs
+Unbarred = Each UnbarredAt
 
 -- ---- the registers after such bytes
 
@@ -47,38 +47,16 @@ freer-putAll xs g u = freer-all xs g g u (λ d e. e)
 -- ---- streams of such bytes
 
 pub unbarred-take : (k : ℕ) (xs : List Sent) → Unbarred xs → Unbarred (take k xs)
-unbarred-take zero xs u = tt
-unbarred-take (suc k) [] u = tt
-unbarred-take (suc k) (x ∷ xs) u = (u .0, unbarred-take k xs (u .1))
-
-unbarred-append : (xs ys : List Sent) → Unbarred xs → Unbarred ys → Unbarred (xs ++ ys)
-unbarred-append [] ys u v = v
-unbarred-append (x ∷ xs) ys u v = (u .0, unbarred-append xs ys (u .1) v)
-
-unbarred-data : (i : ℕ) (bs : List ℕ) → Unbarred (dataSent i bs)
-unbarred-data i [] = tt
-unbarred-data i (b ∷ bs) = (tt, unbarred-data (suc i) bs)
-
-unbarred-windows : (base : ℕ) (ws : List Window) → Unbarred (windowsSent base ws)
-unbarred-windows base [] = tt
-unbarred-windows base (w ∷ ws) =
-    unbarred-append (windowSent base w) (windowsSent base ws) (tt, (tt, (tt, (tt, (tt, unbarred-data (base + w .start) (w .bytes)))))) (unbarred-windows base ws)
+unbarred-take = each-take UnbarredAt
 
 unbarred-section : (c : Chain) (d : ℕ) (s : Section) → B4 (s .control) ≡ false → Unbarred (sectionSent (baseAt c d) d s)
-unbarred-section c d s h = (h, (tt, (tt, (tt, (tt, unbarred-windows (baseAt c d) (s .windows))))))
+unbarred-section c d s h = (h, (tt, (tt, (tt, (tt, each-windows UnbarredAt (λ b. tt) (λ i b. tt) (baseAt c d) (s .windows))))))
 
 unbarred-sections : (c : Chain) (d : ℕ) (s : Section) (ss : List Section) → Clear s ss → Unbarred (sectionsSent c d s ss)
-unbarred-sections c d s [] h = unbarred-append (sectionSent (baseAt c d) d s) (frame postamble ∷ []) (unbarred-section c d s h) (tt, tt)
+unbarred-sections c d s [] h = each-append UnbarredAt (sectionSent (baseAt c d) d s) (frame postamble ∷ []) (unbarred-section c d s h) (tt, tt)
 unbarred-sections c d s (t ∷ ts) h =
-    unbarred-append (sectionSent (baseAt c d) d s) (frame preamble ∷ sectionsSent c (suc d) t ts) (unbarred-section c d s (h .0)) (tt, unbarred-sections c (suc d) t ts (h .1))
-
-unbarred-lead : (mode : ℕ) → Unbarred (leadSent mode)
-unbarred-lead mode = either (eqb mode two-preambles)
-  where
-    either : (k : Bool) → Unbarred (pick k (frame preamble ∷ frame preamble ∷ []) (frame preamble ∷ []))
-    either true = (tt, (tt, tt))
-    either false = (tt, tt)
+    each-append UnbarredAt (sectionSent (baseAt c d) d s) (frame preamble ∷ sectionsSent c (suc d) t ts) (unbarred-section c d s (h .0)) (tt, unbarred-sections c (suc d) t ts (h .1))
 
 -- a stream with B4 clear in every control byte
 pub unbarred-stream : (c : Chain) (mode : ℕ) (s : Section) (ss : List Section) → Clear s ss → Unbarred (streamSent c mode s ss)
-unbarred-stream c mode s ss h = unbarred-append (leadSent mode) (sectionsSent c 0 s ss) (unbarred-lead mode) (unbarred-sections c 0 s ss h)
+unbarred-stream c mode s ss h = each-append UnbarredAt (leadSent mode) (sectionsSent c 0 s ss) (each-lead UnbarredAt (λ b. tt) mode) (unbarred-sections c 0 s ss h)

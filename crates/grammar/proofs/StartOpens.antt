@@ -9,7 +9,7 @@ use Rattle.chain.specs.State.{stateNumber, feedNumber}
 use Rattle.chain.proofs.Sound.{state-usable}
 use Rattle.machine.specs.Calls.{startNumber, startOf, openedPlace}
 use Rattle.machine.proofs.Starts.{start-passes}
-use Rattle.machine.proofs.Started.{opened-feeds}
+use Rattle.grammar.proofs.runs.Started.{opened-feeds}
 
 -- the devices of a state that the calls take are 1 to 8
 pub count-sound : (c : Chain) (len : ℕ) → stateNumber c len ≡ done → (0 < c .count) × (c .count ≤ most-devices)

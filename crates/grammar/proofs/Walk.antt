@@ -13,9 +13,9 @@ use Rattle.chain.specs.Paper.{at·control, at·data, more}
 use Rattle.chain.proofs.ByCases.{by-test}
 use Rattle.machine.specs.Byte.{awaits, numberOf}
 use Rattle.machine.specs.Run.{addressOf, memoryOf, registersOf, missedOf, counted, ended, Run, run, wentOn, runOf}
-use Rattle.machine.proofs.Blind.{still, went-still}
+use Rattle.grammar.proofs.runs.Blind.{still, went-still}
 use Rattle.machine.proofs.Frame.{advance-frame}
-use Rattle.machine.proofs.Kept.{unwritten-run, unloaded-run}
+use Rattle.grammar.proofs.runs.Kept.{unwritten-run, unloaded-run}
 use Rattle.machine.proofs.Runs.{run-went, run-ended}
 use Rattle.grammar.specs.Sent.{Target, framing, register, cell, Sent, frame, Store, memory, registers, Slot, no-slot, index, slot}
 use Rattle.grammar.specs.Stores.{aim, walkOf, changes, storedOf, putOf, putsIn, putsOf, putInto}

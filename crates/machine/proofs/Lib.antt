@@ -5,12 +5,3 @@ pub mod Starts
 pub mod Only
 pub mod Frame
 pub mod Runs
-pub mod Kept
-pub mod Blind
-pub mod Stays
-pub mod Steps
-pub mod Keeps
-pub mod Started
-pub mod Slices
-pub mod Append
-pub mod Above

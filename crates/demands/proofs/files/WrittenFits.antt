@@ -27,7 +27,7 @@ use Rattle.grammar.specs.Tables.{cells, windowsFrom}
 use Rattle.demands.specs.Ours.{ours}
 use Rattle.grammar.proofs.SectionBytes.{serial-one}
 use Rattle.demands.proofs.files.SectionLists.{listed}
-use Rattle.demands.proofs.ByteLists.{bytes-at}
+use Rattle.chain.proofs.Bytes.{bytes-at}
 use Rattle.demands.proofs.loads.FittingLoads.{second-a}
 use Rattle.demands.proofs.files.WrittenLoads.{Small, section-small, written-loads}
 use Rattle.chain.specs.Calls.{noChain}

@@ -13,10 +13,10 @@ use Rattle.chain.proofs.ByCases.{by-test}
 use Rattle.machine.specs.Run.{run, runOf}
 use Rattle.machine.specs.declared.Fed.{Fed}
 use Rattle.machine.specs.Calls.{sliceMemory}
-use Rattle.machine.proofs.Kept.{check-cells, check-registers}
-use Rattle.machine.proofs.Slices.{slice-runs, slice-refused}
+use Rattle.grammar.proofs.runs.Kept.{check-cells, check-registers}
+use Rattle.grammar.proofs.runs.Slices.{slice-runs, slice-refused}
 use Rattle.machine.proofs.Runs.{run-lasts}
-use Rattle.machine.proofs.Stays.{run-stays}
+use Rattle.grammar.proofs.runs.Stays.{run-stays}
 use Rattle.demands.specs.Demand2.{slices, Kept, Demand2f}
 use Rattle.demands.specs.Ours.{ours}
 use Rattle.demands.proofs.loads.LoadRuns.{begun, started}

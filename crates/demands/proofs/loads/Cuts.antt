@@ -16,7 +16,7 @@ use Rattle.machine.specs.declared.Fed.{Fed}
 use Rattle.machine.specs.Run.{Run, run, runOf}
 use Rattle.machine.specs.Calls.{unfed, sliceMemory}
 use Rattle.machine.proofs.Feed.{run-append}
-use Rattle.machine.proofs.Slices.{slice-runs, slice-refused, fed-more, fed-over}
+use Rattle.grammar.proofs.runs.Slices.{slice-runs, slice-refused, fed-more, fed-over}
 use Rattle.demands.specs.Loader.{AfterSlice}
 use Rattle.demands.specs.Demand2.{slices, joined}
 use Rattle.demands.specs.Ours.{ours}

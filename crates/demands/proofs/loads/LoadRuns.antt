@@ -16,9 +16,9 @@ use Rattle.chain.proofs.Bytes.{bytes-front, bytes-rest}
 use Rattle.machine.specs.Run.{Run, run, runOf}
 use Rattle.machine.specs.Calls.{openedPlace, fedOf}
 use Rattle.machine.proofs.Feed.{run-append, run-over}
-use Rattle.machine.proofs.Keeps.{run-open}
+use Rattle.grammar.proofs.runs.Keeps.{run-open}
 use Rattle.machine.proofs.Runs.{run-lasts}
-use Rattle.machine.proofs.Slices.{slice-runs, fed-more}
+use Rattle.grammar.proofs.runs.Slices.{slice-runs, fed-more}
 use Rattle.grammar.proofs.StartOpens.{opened-sound, start-done}
 use Rattle.demands.specs.Loader.{AfterSlice, Mode}
 use Rattle.demands.specs.Demand2.{slices, joined}

@@ -11,8 +11,8 @@ use Rattle.chain.specs.Set.{with·place}
 use Rattle.chain.proofs.ByCases.{by-test}
 use Rattle.machine.specs.Run.{Run, run, runOf}
 use Rattle.machine.specs.Calls.{openedPlace, fedOf}
-use Rattle.machine.proofs.Slices.{fed-more, fed-over}
-use Rattle.machine.proofs.Stays.{run-stays}
+use Rattle.grammar.proofs.runs.Slices.{fed-more, fed-over}
+use Rattle.grammar.proofs.runs.Stays.{run-stays}
 use Rattle.grammar.specs.Sent.{Sent}
 use Rattle.grammar.specs.Stores.{walkOf}
 use Rattle.grammar.proofs.Leaves.{leaves}

@@ -15,7 +15,7 @@ use Rattle.grammar.specs.Fits.{SectionsFit, Fitting, Reading}
 use Rattle.chain.specs.Bytes.{Bytes}
 use Rattle.demands.specs.Loader.{Idle, Mode}
 use Rattle.writer.specs.Stream.{sectionOf}
-use Rattle.demands.proofs.ByteLists.{bytes-below}
+use Rattle.chain.proofs.Bytes.{bytes-below}
 
 abbrev pub teaching : Chain
 teaching = record { count = 1; kinds = replicate 8 0; registers = replicate 8 0; place = closedPlace }

@@ -23,7 +23,7 @@ use Rattle.machine.specs.Byte.{awaits, nextDevice, begins, registerBegun, byteR
 use Rattle.machine.specs.Run.{run, runOf}
 use Rattle.machine.specs.Calls.{sliceOf}
 use Rattle.machine.proofs.Runs.{step-number}
-use Rattle.machine.proofs.Slices.{slice-refused, slice-number}
+use Rattle.grammar.proofs.runs.Slices.{slice-refused, slice-number}
 use Rattle.demands.specs.ByteTable.{Awaits, BeginsWith, ownTable, byteTable, sliceNumber}
 
 -- ---- B2 that would begin a device

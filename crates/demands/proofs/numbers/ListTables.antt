@@ -20,11 +20,11 @@ use Rattle.chain.proofs.Sizes.{size-most}
 use Rattle.chain.proofs.ByCases.{by-test, either-way}
 use Rattle.machine.specs.Byte.{byteRules, numberOf}
 use Rattle.machine.specs.Run.{Run, run, stepOf, runOf}
-use Rattle.machine.proofs.Started.{opened-feeds}
+use Rattle.grammar.proofs.runs.Started.{opened-feeds}
 use Rattle.machine.specs.Calls.{openedPlace, startNumber, startOf, fedOf, sliceOf}
 use Rattle.machine.specs.declared.Fed.{Fed}
 use Rattle.machine.proofs.Runs.{step-number}
-use Rattle.machine.proofs.Slices.{slice-runs, slice-number}
+use Rattle.grammar.proofs.runs.Slices.{slice-runs, slice-number}
 use Rattle.machine.proofs.Feed.{first-on, first-off}
 use Rattle.lister.specs.declared.stream.Stop.{Stop}
 use Rattle.lister.specs.declared.Listed.{Listed}

@@ -22,7 +22,7 @@ use Rattle.machine.specs.Run.{Run, run, ended, runOf}
 use Rattle.machine.specs.Calls.{startNumber, startOf, fedOf, sliceOf, sliceMemory, dropOf}
 use Rattle.machine.proofs.Feed.{run-append, run-over}
 use Rattle.machine.proofs.Runs.{run-ended}
-use Rattle.machine.proofs.Slices.{slice-runs, slice-refused as refused, fed-more, fed-over, slice-number, more-feeds, slice-open}
+use Rattle.grammar.proofs.runs.Slices.{slice-runs, slice-refused as refused, fed-more, fed-over, slice-number, more-feeds, slice-open}
 use Rattle.saved.specs.Layout.{savedBytes}
 use Rattle.saved.specs.Calls.{saveNumber, saveOf, saveOutput, pickUpNumber, pickUpOf}
 use Rattle.closing.specs.Closing.{closingBytes}

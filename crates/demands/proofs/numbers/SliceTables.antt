@@ -24,7 +24,7 @@ use Rattle.machine.specs.Run.{Run, run, runOf}
 use Rattle.machine.specs.Calls.{fedOf, sliceOf}
 use Rattle.machine.proofs.Feed.{run-append, run-over}
 use Rattle.machine.proofs.Runs.{step-number}
-use Rattle.machine.proofs.Slices.{slice-runs, fed-more, slice-number, more-feeds}
+use Rattle.grammar.proofs.runs.Slices.{slice-runs, fed-more, slice-number, more-feeds}
 use Rattle.demands.specs.ByteTable.{ByteClaim, _whenever_, byteClaims, claimsOf, ownTable, sliceNumber, AtSome, sliceTable}
 use Rattle.demands.proofs.numbers.ByteTables.{own-same, own-table, slice-off}
 

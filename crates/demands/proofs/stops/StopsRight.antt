@@ -15,7 +15,7 @@ use Rattle.chain.specs.State.{stateNumber, feedNumber}
 use Rattle.chain.proofs.Bytes.{bytes-front, bytes-take}
 use Rattle.machine.specs.Run.{Run, run, runOf}
 use Rattle.machine.specs.Calls.{answered, fedOf}
-use Rattle.machine.proofs.Keeps.{run-open}
+use Rattle.grammar.proofs.runs.Keeps.{run-open}
 use Rattle.machine.proofs.Runs.{run-lasts}
 use Rattle.closing.specs.Closing.{closingBytes}
 use Rattle.closing.proofs.Closes.{closes}

@@ -12,11 +12,11 @@ use Rattle.chain.specs.State.{stateNumber, feedNumber}
 use Rattle.chain.specs.Bytes.{Bytes}
 use Rattle.chain.proofs.ByCases.{by-test, by-eq, either-way}
 use Rattle.chain.proofs.Sound.{feed-is-taken, feed-never-more}
 use Rattle.machine.specs.declared.Fed.{Fed}
 use Rattle.machine.specs.Run.{Run, run, runOf}
 use Rattle.machine.specs.Calls.{unfed, fedOf, sliceOf, sliceMemory}
 use Rattle.machine.proofs.Runs.{Lasts, run-lasts}
-use Rattle.machine.proofs.Keeps.{run-open, run-closed}
+use Rattle.grammar.proofs.runs.Keeps.{run-open, run-closed}
 
 module _ (c : Chain) (m s : List ℕ) where
   pub slice-runs : feedNumber c (length m) ≡ done

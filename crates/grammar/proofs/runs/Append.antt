@@ -11,12 +11,12 @@ use Rattle.chain.specs.Rules.{pick}
 use Rattle.chain.specs.State.{feedNumber}
 use Rattle.chain.specs.Bytes.{Bytes}
 use Rattle.chain.proofs.ByCases.{by-test, by-eq}
 use Rattle.machine.specs.declared.Fed.{Fed}
 use Rattle.machine.specs.Run.{Run, run, runOf}
 use Rattle.machine.specs.Calls.{fedOf, sliceOf, sliceMemory}
 use Rattle.machine.proofs.Feed.{run-append, run-over}
-use Rattle.machine.proofs.Keeps.{run-open}
-use Rattle.machine.proofs.Slices.{slice-runs, slice-refused, fed-more, slice-number, more-feeds}
+use Rattle.grammar.proofs.runs.Keeps.{run-open}
+use Rattle.grammar.proofs.runs.Slices.{slice-runs, slice-refused, fed-more, slice-number, more-feeds}
 
 module _ (c : Chain) (m a b : List ℕ) where
   -- one after the other, and the first alone

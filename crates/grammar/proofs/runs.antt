@@ -1,0 +1,9 @@
+pub mod Kept
+pub mod Blind
+pub mod Stays
+pub mod Steps
+pub mod Keeps
+pub mod Started
+pub mod Slices
+pub mod Append
+pub mod Above
