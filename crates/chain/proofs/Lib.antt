@@ -10,6 +10,7 @@ pub mod Sizes
 pub mod Turns
 pub mod Numbers
 pub mod BadChain
+pub mod ByRow
 pub mod WellFormed
 pub mod Sound
 pub mod Table

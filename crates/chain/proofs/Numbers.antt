@@ -1,11 +1,13 @@
 -- The state's own numbers stand before a call's: where one is given it is the call's, where none is the call's own follow. Assumes nothing.
 use Prim.Native.Nat.{ℕ}
-use mathlib.Core.Path.{_≡_}
+use mathlib.Core.Bool.{Bool, true, false}
+use mathlib.Core.Path.{_≡_, refl}
 use mathlib.Core.List.{List, []}
+use lib.Dec.{eqb}
 use Rattle.chain.specs.declared.Chain.{Chain}
-use Rattle.chain.specs.Paper.{done}
-use Rattle.chain.specs.Rules.{Rule, firstOf}
-use Rattle.chain.specs.State.{stateRules, openRules, feedRules, stateNumber, openNumber, feedNumber}
+use Rattle.chain.specs.Paper.{closed, done, bad-chain, no-run, ill-formed}
+use Rattle.chain.specs.Rules.{pick, Rule, firstOf}
+use Rattle.chain.specs.State.{badChain, illFormed, stateRules, openRules, feedRules, stateNumber, openNumber, feedNumber}
 use Rattle.chain.proofs.FirstOf.{None, first-none, first-passes, first-gives}
 
 module _ (c : Chain) (len : ℕ) where
@@ -20,6 +22,19 @@ module _ (c : Chain) (len : ℕ) where
   pub feed-none : feedNumber c len ≡ done → None (feedRules c len [])
   unfolding feedNumber
   feed-none h = first-none (feedRules c len []) done tt h
+
+-- 4 comes after 1 and 17: without it what a call gives that wants a run open is what every call gives
+pub state-of-open : (c : Chain) (len : ℕ) → stateNumber c len ≡ pick (eqb (openNumber c len) no-run) done (openNumber c len)
+unfolding stateNumber openNumber
+state-of-open c len = each (badChain (c .count) (c .kinds) len) (illFormed c) (eqb (c .place .running) closed)
+  where
+    each : (b i r : Bool)
+        → pick b bad-chain (pick i ill-formed done)
+        ≡ pick (eqb (pick b bad-chain (pick i ill-formed (pick r no-run done))) no-run) done (pick b bad-chain (pick i ill-formed (pick r no-run done)))
+    each true i r = refl
+    each false true r = refl
+    each false false true = refl
+    each false false false = refl
 
 module _ (c : Chain) (len : ℕ) (rules : List Rule) (n : ℕ) where
   pub state-gives : (stateNumber c len ≡ done → ⊥) → firstOf (stateRules c len rules) n ≡ stateNumber c len

@@ -1,19 +1,23 @@
 -- A state that the calls take, as facts: none of 1 and 17 is given for it, and with a run open not 4 either. Assumes nothing.
 use Prim.Native.Nat.{ℕ}
+use mathlib.Core.Bool.{true, true≢false}
 use mathlib.Core.Logic.{inl, inr, ⊎-elim}
-use mathlib.Core.Path.{_≡_, refl}
-use mathlib.Core.List.{[]}
+use mathlib.Core.Path.{_≡_, refl, sym, _∙_}
+use mathlib.Core.List.{List, []}
 use native.Mathlib.Omega.{arith}
-use borrow.Author.Tests.{eqb-false}
+use borrow.Author.Tests.{eqb-false, eq-eqb, ne-eqb}
+use lib.Dec.{eqb}
 use Rattle.chain.specs.declared.Chain.{Chain}
+use Rattle.chain.specs.declared.Place.{Place}
 use Rattle.chain.specs.Paper.{closed, opened, done, more}
 use Rattle.chain.specs.Set.{with·place, closedPlace}
-use Rattle.chain.specs.State.{stateRules, openRules, feedRules, stateNumber, openNumber, feedNumber}
+use Rattle.chain.specs.State.{wellFormed, stateRules, openRules, feedRules, stateNumber, openNumber, feedNumber}
 use Rattle.chain.specs.WellFormed.{UnusedZero, WellFormed}
+use Rattle.chain.proofs.ByCases.{by-test}
 use Rattle.chain.proofs.FirstOf.{none-first, first-never}
 use Rattle.chain.proofs.Numbers.{state-none, open-none}
 use Rattle.chain.proofs.BadChain.{Fits, m-fits}
-use Rattle.chain.proofs.WellFormed.{m-not-ill}
+use Rattle.chain.proofs.WellFormed.{formed-of, of-formed, m-not-ill}
 
 -- what every call wants of a state, whatever its place
 pub record Usable (c : Chain) (len : ℕ) : Type 0 where
@@ -56,6 +60,35 @@ module _ (c : Chain) (len : ℕ) where
       let u = s .usable in
       none-first (openRules c len []) done
       (m-fits (c .count) (c .kinds) len .said (u .fits), (m-not-ill c .said ((u .kinds, u .registers), inr (s .running, s .formed)), (rw (s .running), tt)))
+
+-- ---- another open place, with other registers, in a chain that is taken
+
+module _ (c : Chain) (len : ℕ) (g : List ℕ) (p : Place) (h : stateNumber c len ≡ done) (o : p .running ≡ opened) where
+  abbrev placed : Chain
+  placed = record { count = c .count; kinds = c .kinds; registers = g; place = p }
+
+  -- the chain's count and kinds are all that 'Well formed' asks of it
+  same-formed : wellFormed placed g p ≡ wellFormed c g p
+  unfolding wellFormed
+  same-formed = refl
+
+  formed-taken : wellFormed c g p ≡ true → stateNumber placed len ≡ done
+  formed-taken w =
+      let u = state-usable c len h in
+      let f = formed-of placed g p (same-formed ∙ w) in
+      open-is-taken placed len
+      (of-sound placed len (record { usable = record { fits = u .fits; kinds = u .kinds; registers = f .unused-registers }; running = o; formed = f }))
+
+  taken-formed : stateNumber placed len ≡ done → wellFormed c g p ≡ true
+  taken-formed t =
+      let r = state-none placed len t in
+      sym same-formed ∙ of-formed placed g p (⊎-elim (λ z. absurd (eqb-false opened closed refl (sym o ∙ z))) (λ w. w .1) (m-not-ill placed .says (r .1 .0) .1))
+
+  -- is taken exactly where it is well formed
+  pub placed-taken : eqb (stateNumber placed len) done ≡ wellFormed c g p
+  placed-taken =
+      by-test (wellFormed c g p) (λ w. eq-eqb (stateNumber placed len) done (formed-taken w) ∙ sym w)
+      (λ w. ne-eqb (stateNumber placed len) done (λ t. true≢false (sym (taken-formed t) ∙ w)) ∙ sym w)
 
 -- ---- a state that takes bytes: today every state with a run open
 

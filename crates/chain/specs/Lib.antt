@@ -6,6 +6,7 @@ pub mod Window
 pub mod Bytes
 pub mod Output
 pub mod State
+pub mod ByRow
 pub mod Calls
 pub mod WellFormed
 pub mod Table

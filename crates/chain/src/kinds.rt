@@ -3,24 +3,26 @@ use crate::Chain;
 use crate::eight::at8;
 ghost use mathlib.Core.Path.{_≡_};
 ghost use Prim.Native.Nat.{_≤_};
-ghost use Rattle.chain.specs.Kinds.{sizeOf, sizeHere, baseOf, knownOf};
+ghost use Rattle.chain.specs.Kinds.{sizeOf, sizeHere, baseOf};
 
 const KINDS: [u8; 5] = [0, 2, 3, 5, 10];
 
 const SIZES: [u16; 5] = [52, 2665, 4141, 8065, 16381];
 
-// The size of a kind, 0 for an unknown one.
+// The size of a kind, 0 for an unknown one. From the last row to the first and to the end, whatever is found: with no way out in
+// between the compiler needs no table in memory.
 pub fn size_of(kind: u8) -> u16
     ensures { λ r. ⌜ r ≡ sizeOf kind ⌝ }
 {
-    let mut i: usize = 0;
-    while i < 5 {
+    let mut size: u16 = 0;
+    let mut i: usize = 5;
+    while 0 < i {
+        i -= 1;
         if KINDS[i] == kind {
-            return SIZES[i];
+            size = SIZES[i];
         }
-        i += 1;
     }
-    0
+    size
 }
 
 // The size of the run's device.
@@ -46,21 +48,4 @@ pub fn base_of(kinds: [u8; 8], device: u8) -> usize
         i += 1;
     }
     sum
-}
-
-// The first n of eight kinds are known.
-pub fn known(kinds: [u8; 8], n: u8) -> bool
-    ensures { λ r. ⌜ r ≡ knownOf kinds n ⌝ }
-{
-    let mut i: u8 = 0;
-    while i < n {
-        if 8 <= i {
-            return true;
-        }
-        if size_of(at8(kinds, i)) == 0 {
-            return false;
-        }
-        i += 1;
-    }
-    true
 }

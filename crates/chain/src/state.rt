@@ -3,66 +3,158 @@ use crate::Chain;
 use crate::Place;
 use crate::eight::at8;
 use crate::eight::unused_zero;
-use crate::kinds::base_of;
-use crate::kinds::known;
 use crate::kinds::size_of;
 use crate::paper::*;
 ghost use mathlib.Core.Path.{_≡_};
-ghost use Rattle.chain.specs.Rules.{allOf};
-ghost use Rattle.chain.specs.State.{badChain, formed, wellFormed, illFormed, stateNumber, openNumber, feedNumber};
+ghost use Rattle.chain.specs.ByRow.{held, noWindow, atPreamble, atSecond, atControl, outside, inside, noBounds, halfStart, startAlone, halfEnd, bothBounds, byRow};
+ghost use Rattle.chain.specs.State.{badChain, unusedZero, wellFormed, illFormed, stateNumber, openNumber, feedNumber};
 
-// Number 1.
+// Number 1. A size is looked up once: an unknown kind has none.
 pub fn bad_chain(count: u8, kinds: [u8; 8], len: usize) -> bool
     ensures { λ r. ⌜ r ≡ badChain count kinds len ⌝ }
 {
-    let total = base_of(kinds, count);
-    !((1 <= count) & (count <= MOST_DEVICES))
-        | !known(kinds, count)
-        | (MOST_MEMORY < total)
-        | !(total == len)
+    if !((1 <= count) & (count <= MOST_DEVICES)) {
+        return true;
+    }
+    let n = count as usize;
+    let mut total: usize = 0;
+    let mut i: usize = 0;
+    while i < n {
+        let size = size_of(kinds[i]);
+        if size == 0 {
+            return true;
+        }
+        total += size as usize;
+        i += 1;
+    }
+    (MOST_MEMORY < total) | !(total == len)
 }
 
-// The rows of 'Well formed' for one device: its stored register g and its size.
-fn is_formed(p: Place, count: u8, unused: bool, g: u8, size: u16) -> bool
-    ensures { λ r. ⌜ r ≡ allOf (formed p count unused g size) ⌝ }
+// What 'Well formed' asks whatever byte is awaited.
+fn is_held(p: Place, count: u8, unused: bool) -> bool
+    ensures { λ r. ⌜ r ≡ held p count unused ⌝ }
 {
     ((FIRST_MODE <= p.mode) & (p.mode <= TWO_PREAMBLES))
         & ((WRITING <= p.check) & (p.check <= CHECKING))
-        & ((AT_PREAMBLE <= p.awaited) & (p.awaited <= AT_CHECK))
         & (p.device < count)
         & unused
         & (!(p.check == WRITING) | (p.mismatches == 0))
-        & (!((AT_PREAMBLE <= p.awaited) & (p.awaited <= AT_SECOND)) | (p.device == 0))
-        & (!(p.awaited == AT_SECOND) | (p.mode == TWO_PREAMBLES))
-        & (!(p.awaited <= AT_CONTROL) | (p.control == 0))
-        & (!((AT_CONTROL < p.awaited) & (p.check == WRITING)) | (p.control == g))
-        & (!((AT_CONTROL < p.awaited) & (p.check == CHECKING)) | !(p.control / BIT_3 % 2 == 1))
-        & (!(((AT_PREAMBLE <= p.awaited) & (p.awaited <= AT_COUNT)) | (p.awaited == AT_CHECK))
-            | ((p.left == 0) & (p.start == 0) & (p.end == 0) & (p.next == 0)))
-        & (!((AT_NULL <= p.awaited) & (p.awaited <= AT_DATA)) | (1 <= p.left))
-        & (!((AT_NULL <= p.awaited) & (p.awaited <= AT_START))
-            | ((p.start == 0) & (p.end == 0) & (p.next == 0)))
-        & (!(p.awaited == AT_START_LOW) | ((p.start % 256 == 0) & (p.end == 0) & (p.next == 0)))
-        & (!(p.awaited == AT_END) | ((p.start < size) & (p.end == 0) & (p.next == 0)))
-        & (!(p.awaited == AT_END_LOW) | ((p.start < size) & (p.end % 256 == 0) & (p.next == 0)))
-        & (!(p.awaited == AT_DATA) | ((p.start <= p.next) & (p.next <= p.end) & (p.end < size)))
-        & (!(p.awaited == AT_CONTROL) | !(g / BIT_4 % 2 == 1))
-        & (!((p.awaited == AT_CONTROL) & (p.check == CHECKING)) | !(g / BIT_3 % 2 == 1))
 }
 
-// The place p, with these registers, is well formed in the chain c: of a lent state, and of a saved place.
-pub fn well_formed(c: Chain, registers: [u8; 8], p: Place) -> bool
-    ensures { λ r. ⌜ r ≡ wellFormed c registers p ⌝ }
+fn no_window(p: Place) -> bool
+    ensures { λ r. ⌜ r ≡ noWindow p ⌝ }
+{
+    (p.left == 0) & (p.start == 0) & (p.end == 0) & (p.next == 0)
+}
+
+fn at_preamble(p: Place, h: bool) -> bool
+    ensures { λ r. ⌜ r ≡ atPreamble p h ⌝ }
+{
+    h & (p.device == 0) & (p.control == 0) & no_window(p)
+}
+
+fn at_second(p: Place, h: bool) -> bool
+    ensures { λ r. ⌜ r ≡ atSecond p h ⌝ }
+{
+    h & (p.device == 0) & (p.mode == TWO_PREAMBLES) & (p.control == 0) & no_window(p)
+}
+
+fn at_control(p: Place, h: bool, g: u8) -> bool
+    ensures { λ r. ⌜ r ≡ atControl p h g ⌝ }
+{
+    h
+        & (p.control == 0)
+        & no_window(p)
+        & !(g / BIT_4 % 2 == 1)
+        & (!(p.check == CHECKING) | !(g / BIT_3 % 2 == 1))
+}
+
+// The control byte is taken, and no window is open.
+fn outside_windows(p: Place, h: bool, g: u8) -> bool
+    ensures { λ r. ⌜ r ≡ outside p h g ⌝ }
+{
+    h
+        & (!(p.check == WRITING) | (p.control == g))
+        & (!(p.check == CHECKING) | !(p.control / BIT_3 % 2 == 1))
+        & no_window(p)
+}
+
+// A window is open, whose bounds are as they have to be here.
+fn inside_window(p: Place, h: bool, g: u8, bounds: bool) -> bool
+    ensures { λ r. ⌜ r ≡ inside p h g bounds ⌝ }
+{
+    h
+        & (!(p.check == WRITING) | (p.control == g))
+        & (!(p.check == CHECKING) | !(p.control / BIT_3 % 2 == 1))
+        & (1 <= p.left)
+        & bounds
+}
+
+fn no_bounds(p: Place) -> bool
+    ensures { λ r. ⌜ r ≡ noBounds p ⌝ }
+{
+    (p.start == 0) & (p.end == 0) & (p.next == 0)
+}
+
+fn half_start(p: Place) -> bool
+    ensures { λ r. ⌜ r ≡ halfStart p ⌝ }
+{
+    (p.start % 256 == 0) & (p.end == 0) & (p.next == 0)
+}
+
+fn start_alone(p: Place, size: u16) -> bool
+    ensures { λ r. ⌜ r ≡ startAlone p size ⌝ }
+{
+    (p.start < size) & (p.end == 0) & (p.next == 0)
+}
+
+fn half_end(p: Place, size: u16) -> bool
+    ensures { λ r. ⌜ r ≡ halfEnd p size ⌝ }
+{
+    (p.start < size) & (p.end % 256 == 0) & (p.next == 0)
+}
+
+fn both_bounds(p: Place, size: u16) -> bool
+    ensures { λ r. ⌜ r ≡ bothBounds p size ⌝ }
+{
+    (p.start <= p.next) & (p.next <= p.end) & (p.end < size)
+}
+
+// The rest of 'Well formed' by awaited byte: h is what holds at every one, g the stored register of the place's device, size its size.
+fn by_row(p: Place, h: bool, g: u8, size: u16) -> bool
+    ensures { λ r. ⌜ r ≡ byRow p h g size ⌝ }
+{
+    let a = p.awaited;
+    match a {
+        AT_PREAMBLE => at_preamble(p, h),
+        AT_SECOND => at_second(p, h),
+        AT_CONTROL => at_control(p, h, g),
+        AT_ADDRESS => outside_windows(p, h, g),
+        AT_ADDRESS2 => outside_windows(p, h, g),
+        AT_ADDRESS3 => outside_windows(p, h, g),
+        AT_COUNT => outside_windows(p, h, g),
+        AT_NULL => inside_window(p, h, g, no_bounds(p)),
+        AT_START => inside_window(p, h, g, no_bounds(p)),
+        AT_START_LOW => inside_window(p, h, g, half_start(p)),
+        AT_END => inside_window(p, h, g, start_alone(p, size)),
+        AT_END_LOW => inside_window(p, h, g, half_end(p, size)),
+        AT_DATA => inside_window(p, h, g, both_bounds(p, size)),
+        AT_CHECK => outside_windows(p, h, g),
+        _ => false,
+    }
+}
+
+// The open place is well formed; unused is whether the unused registers are zero.
+fn well_formed(c: Chain, unused: bool) -> bool
+    requires { ⌜ unused ≡ unusedZero (c .registers) (c .count) ⌝ }
+    ensures { λ r. ⌜ r ≡ wellFormed c (c .registers) (c .place) ⌝ }
 {
     let ks = c.kinds;
+    let rs = c.registers;
+    let p = c.place;
     let d = p.device;
-    is_formed(
-        p,
-        c.count,
-        unused_zero(registers, c.count),
-        at8(registers, d),
-        size_of(at8(ks, d)),
-    )
+    let h = is_held(p, c.count, unused);
+    by_row(p, h, at8(rs, d), size_of(at8(ks, d)))
 }
 
 // Number 17. Where no run is open, the rest of the place is no part of the state and is not tested.
@@ -72,29 +164,21 @@ pub fn ill_formed(c: Chain) -> bool
     let n = c.count;
     let ks = c.kinds;
     let rs = c.registers;
-    let p = c.place;
-    let stray = !unused_zero(ks, n) | !unused_zero(rs, n);
-    if p.running == CLOSED {
-        return stray;
+    let running = c.place.running;
+    if !unused_zero(ks, n) {
+        return true;
     }
-    stray | !((p.running == OPENED) & well_formed(c, rs, p))
+    if !unused_zero(rs, n) {
+        return true;
+    }
+    if running == CLOSED {
+        return false;
+    }
+    !((running == OPENED) & well_formed(c, true))
 }
 
-// What every call on a state gives before it looks at more: 1, then 17, or 0.
-pub fn state_number(c: Chain, len: usize) -> u8
-    ensures { λ r. ⌜ r ≡ stateNumber c len ⌝ }
-{
-    let ks = c.kinds;
-    if bad_chain(c.count, ks, len) {
-        return BAD_CHAIN;
-    }
-    if ill_formed(c) {
-        return ILL_FORMED;
-    }
-    DONE
-}
-
-// The same for a call that wants a run open: 1, 17, 4, or 0.
+// What a call that wants a run open gives before it looks at more: 1, 17, 4, or 0. The calls hand their chain on to it whole, as it was
+// lent: were a field of it used beside, a copy would be made first.
 pub fn open_number(c: Chain, len: usize) -> u8
     ensures { λ r. ⌜ r ≡ openNumber c len ⌝ }
 {
@@ -109,6 +193,17 @@ pub fn open_number(c: Chain, len: usize) -> u8
         return NO_RUN;
     }
     DONE
+}
+
+// The same for every call on a state: 1, then 17, or 0.
+pub fn state_number(c: Chain, len: usize) -> u8
+    ensures { λ r. ⌜ r ≡ stateNumber c len ⌝ }
+{
+    let n = open_number(c, len);
+    if n == NO_RUN {
+        return DONE;
+    }
+    n
 }
 
 // The same for a call that feeds bytes.

@@ -1,8 +1,11 @@
 -- A layout in pieces, each of which is cut by itself; and the pieces that the code writes and reads a table by. Assumes nothing.
-use Prim.Native.Nat.{ℕ, zero, suc, _+_, _^_, _<_}
+use Prim.Native.Nat.{ℕ, zero, suc, _+_, _-_, _^_, _≤_, _<_}
 use mathlib.Core.Path.{_≡_, refl, sym, ap, ap₂, _∙_}
 use mathlib.Core.List.{List, [], _∷_, _++_}
-use lib.ListN.{length, getD, drop}
+use borrow.Rule.Slice.PartMut.{putMid}
+use lib.ListN.{length, getD, take, drop}
+use lib.Seq.{sets, length-sets}
+use Rattle.cells.proofs.Over.{tail-back}
 use Rattle.chain.specs.declared.Place.{Place}
 use Rattle.saved.specs.Fields.{total, Fit, recut, bytes}
 use Rattle.saved.specs.Layout.{Row, _takes_, headRows, numberRows, registerRows, rows, start, end, next, taken, mismatches, control, headed, form1, widths, values, byteCount, saved-length, savedIn, heldIn}
@@ -93,6 +96,14 @@ module _ (n : ℕ) (g : List ℕ) (p : Place) where
   pub saved-is : Fit (widths rows) (values n rows g p) → savedIn (headed n) g p ≡ all cut (written groups)
   unfolding savedIn
   saved-is f = all-cut (written groups) (fine-written groups whole f)
+
+-- bytes laid over the tail of x from i on, and how long x is then
+module _ (x ys g : List ℕ) (i : ℕ) (y : ys ≡ sets (take (length x - i) (drop i x)) 0 g) (h : i + length g ≤ length x) where
+  pub laid-on : (m : List ℕ) → x ≡ m → putMid i (length x - i) x ys ≡ sets m i g
+  laid-on m e = tail-back x ys g i h y ∙ ap (λ (o : List ℕ). sets o i g) e
+
+  pub laid-length : length (putMid i (length x - i) x ys) ≡ length x
+  laid-length = ap length (tail-back x ys g i h y) ∙ length-sets x i g
 
 -- ---- read
 

@@ -1,4 +1,5 @@
 // The saved place of document 01, 27 bytes: an open run is written down, and picked up again in the same chain.
+use cells::copy;
 use chain::Chain;
 use chain::Made;
 use chain::Place;
@@ -7,13 +8,14 @@ use chain::closed_place;
 use chain::paper::*;
 use chain::state::open_number;
 use chain::state::state_number;
-use chain::state::well_formed;
 ghost use mathlib.Core.Path.{_≡_};
 ghost use mathlib.Core.List.{[], _∷_};
 ghost use Prim.Native.Nat.{_+_, _<_, _≤_};
 ghost use lib.ListN.{length, getD};
 ghost use lib.Seq.{sets};
 ghost use Rattle.chain.specs.Output.{over};
+ghost use Rattle.chain.specs.Paper.{done, opened};
+ghost use Rattle.chain.specs.State.{stateNumber, wellFormed};
 ghost use Rattle.chain.specs.Rules.{allOf};
 ghost use Rattle.saved.specs.Fields.{packed, Fit, recut, bytes};
 ghost use Rattle.saved.specs.Layout.{headRows, numberRows, rows, headed, form1, widths, values, savedIn, heldIn, placeIn, registersIn, marks, byteCount, saved-length};
@@ -70,27 +72,6 @@ fn put_numbers(out: &mut [u8], form: u32, p: Place)
     put32(out, 14, p.mismatches);
 }
 
-fn first4(g: [u8; 8]) -> u32
-    ensures { λ r. ⌜ r ∷ [] ≡ recut (bytes 4) (32 ∷ []) (getD g 0 0 ∷ getD g 1 0 ∷ getD g 2 0 ∷ getD g 3 0 ∷ []) ⌝ }
-{
-    join32(g[0], g[1], g[2], g[3])
-}
-
-fn last4(g: [u8; 8]) -> u32
-    ensures { λ r. ⌜ r ∷ [] ≡ recut (bytes 4) (32 ∷ []) (getD g 4 0 ∷ getD g 5 0 ∷ getD g 6 0 ∷ getD g 7 0 ∷ []) ⌝ }
-{
-    join32(g[4], g[5], g[6], g[7])
-}
-
-// After the rows of numbers.
-fn put_registers(out: &mut [u8], registers: [u8; 8])
-    requires { ⌜ saved-length ≤ length (now out) ⌝ }
-    ensures { λ _. ⌜ now (out .exit) ≡ sets (now (out .entry)) (byteCount numberRows) registers ⌝ }
-{
-    put32(out, 18, first4(registers));
-    put32(out, 22, last4(registers));
-}
-
 // The bytes of document 01's rows, with this number for the form, into the front of out.
 fn put_place(out: &mut [u8], form: u32, registers: [u8; 8], p: Place)
     requires { ⌜ Fit (widths rows) (values form rows registers p) ⌝ }
@@ -98,7 +79,7 @@ fn put_place(out: &mut [u8], form: u32, registers: [u8; 8], p: Place)
     ensures { λ _. ⌜ now (out .exit) ≡ over (savedIn (headed form) registers p) (now (out .entry)) ⌝ }
 {
     put_numbers(out, form, p);
-    put_registers(out, registers);
+    copy(&mut out[18..], &registers);
     out[26] = p.control;
 }
 
@@ -182,7 +163,7 @@ fn eight(s: &[u8], i: usize) -> [u8; 8]
 // The place that the bytes hold.
 fn get_place(s: &[u8]) -> Place
     requires { ⌜ length (now s) ≡ saved-length ⌝ }
-    ensures { λ r. ⌜ r ≡ placeIn form1 (now (s .entry)) ⌝ }
+    ensures { λ r. ⌜ (r ≡ placeIn form1 (now (s .entry))) × (r .running ≡ opened) ⌝ }
 {
     let head = get32(s, 0);
     let start = get16(s, 4);
@@ -215,6 +196,21 @@ fn is_marked(s: &[u8]) -> bool
     ((head >> 28) & 15 == SAVED_FORM) & ((head >> 16) & 1 == 0) & (head & 255 == 0)
 }
 
+// A saved place and registers are well formed in a chain that is taken where the chain would be taken with them.
+fn place_fits(c: Chain, len: usize, registers: [u8; 8], place: Place) -> bool
+    requires { ⌜ (stateNumber c len ≡ done) × (place .running ≡ opened) ⌝ }
+    ensures { λ r. ⌜ r ≡ wellFormed c registers place ⌝ }
+{
+    let kinds = c.kinds;
+    let d = Chain {
+        count: c.count,
+        kinds,
+        registers,
+        place,
+    };
+    state_number(d, len) == DONE
+}
+
 // The state that was saved, in a chain with no open run; refused, the state is handed back as lent.
 pub fn pick_up(c: Chain, mem: &[u8], saved: &[u8]) -> Made
     ensures { λ r. ⌜ PickUp c (now (mem .entry)) (now (saved .entry)) r ⌝ }
@@ -240,7 +236,7 @@ pub fn pick_up(c: Chain, mem: &[u8], saved: &[u8]) -> Made
     }
     let registers = get_registers(saved);
     let place = get_place(saved);
-    if !(is_marked(saved) & well_formed(c, registers, place)) {
+    if !(is_marked(saved) & place_fits(c, mem.len(), registers, place)) {
         return Made {
             chain: c,
             number: ILL_FORMED,

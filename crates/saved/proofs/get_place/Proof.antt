@@ -51,10 +51,12 @@ returns c =
     let next = at-get163 .get163 .ensures in
     let taken = at-get322 .get322 .ensures in
     let mismatches = c .before .before .get323 .ensures in
-    let control = sym (fields-packed (bytes 1) (getD s last 0 ∷ []) (byte last, tt)) in
-    ap (placeOf rows)
-    ((λ k. head k ++ (start k ++ (end k ++ (next k ++ (taken k ++ (mismatches k ++ (recut (bytes 8) (bytes 8) (elems at 8 s) ++ control k)))))))
-    ∙ sym (held-is s byte (entry .pre)))
+    let control = sym (fields-packed (bytes 1) (getD s last 0 ∷ []) (byte last, tt)) in (
+      ap (placeOf rows)
+          ((λ k. head k ++ (start k ++ (end k ++ (next k ++ (taken k ++ (mismatches k ++ (recut (bytes 8) (bytes 8) (elems at 8 s) ++ control k)))))))
+          ∙ sym (held-is s byte (entry .pre))),
+      refl,
+    )
 
 pub get-place-spec : {M : Type 1} → statement M
 get-place-spec =

@@ -34,6 +34,12 @@ returns-3 c = let a = (c .before .before .before .before .before .before .before
           (pick-up-asked (a .c) (length (a .mem .now)) (a .saved .now) e ∙ simp (ne-eqb _ _ (c .before .if2 .left), ne-eqb _ _ (c .if3 .taken)));
     }
 
+place-fits-requires : tie.Need-place-fits-requires
+place-fits-requires c κs =
+    let at-get-place = c .before in
+    let at-if1 = at-get-place .before .before .before .before .before in
+    (sym (at-if1 .before .state-number .ensures) ∙ at-if1 .if1 .left, at-get-place .get-place .ensures .1)
+
 returns-4 : tie.Need-returns-4
 returns-4 c =
     let at-get-place = c .before .before .before in
@@ -45,8 +51,8 @@ returns-4 c =
     let entry = at-state-number .before .before .before in
     let a = entry .args in
     let e = sym (at-state-number .state-number .ensures) ∙ (at-if1 .if1 .left) in
-    let w = found (a .c) (length (a .mem .now)) (a .saved .now) (at-get-registers .get-registers .result) (at-get-place .get-place .result) (c .before .before .is-marked .result) (c .before .well-formed .result) (at-if3 .if3 .left)
-    (at-get-registers .get-registers .ensures) (at-get-place .get-place .ensures) (c .before .before .is-marked .ensures) (c .before .well-formed .ensures) in
+    let w = found (a .c) (length (a .mem .now)) (a .saved .now) (at-get-registers .get-registers .result) (at-get-place .get-place .result) (c .before .before .is-marked .result) (c .before .place-fits .result) (at-if3 .if3 .left)
+    (at-get-registers .get-registers .ensures) (at-get-place .get-place .ensures .0) (c .before .before .is-marked .ensures) (c .before .place-fits .ensures) in
     record {
       made = pick-up-off (a .c) (length (a .mem .now)) (a .saved .now) ill-formed (λ q. omega arith)
           (pick-up-asked (a .c) (length (a .mem .now)) (a .saved .now) e ∙ simp (ne-eqb _ _ (at-if2 .if2 .left), w, (c .if4 .taken)));
@@ -64,10 +70,10 @@ returns-5 c =
     let entry = at-state-number .before .before .before in
     let a = entry .args in
     let e = sym (at-state-number .state-number .ensures) ∙ (at-if1 .if1 .left) in
-    let w = found (a .c) (length (a .mem .now)) (a .saved .now) (at-get-registers .get-registers .result) (at-get-place .get-place .result) (at-is-marked .is-marked .result) (c .before .before .well-formed .result) (at-if3 .if3 .left)
-    (at-get-registers .get-registers .ensures) (at-get-place .get-place .ensures) (at-is-marked .is-marked .ensures) (c .before .before .well-formed .ensures) in
+    let w = found (a .c) (length (a .mem .now)) (a .saved .now) (at-get-registers .get-registers .result) (at-get-place .get-place .result) (at-is-marked .is-marked .result) (c .before .before .place-fits .result) (at-if3 .if3 .left)
+    (at-get-registers .get-registers .ensures) (at-get-place .get-place .ensures .0) (at-is-marked .is-marked .ensures) (c .before .before .place-fits .ensures) in
     record {
-      made = (λ k. record { chain = record { count = a .c .count; kinds = a .c .kinds; registers = (at-get-registers .get-registers .ensures) k; place = (at-get-place .get-place .ensures) k }; number = done })
+      made = (λ k. record { chain = record { count = a .c .count; kinds = a .c .kinds; registers = (at-get-registers .get-registers .ensures) k; place = (at-get-place .get-place .ensures .0) k }; number = done })
           ∙ pick-up-on (a .c) (length (a .mem .now)) (a .saved .now)
           (pick-up-asked (a .c) (length (a .mem .now)) (a .saved .now) e ∙ simp (ne-eqb _ _ (at-if2 .if2 .left), w, (c .before .if4 .left)));
     }
@@ -75,4 +81,4 @@ returns-5 c =
 pub pick-up-spec : {M : Type 1} → statement M
 pick-up-spec =
     tie.close (tie.spec (λ c κs. search needs) returns returns-2 returns-3 (λ c κs. search needs)
-    (λ c κs. search needs) (λ c κs. search needs) (λ c κs. search needs) returns-4 returns-5)
+    (λ c κs. search needs) (λ c κs. search needs) place-fits-requires returns-4 returns-5)

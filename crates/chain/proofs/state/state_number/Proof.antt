@@ -1,20 +1,23 @@
-use Rattle.chain.specs.State.{stateNumber, openNumber}
+use mathlib.Core.Path.{sym, _∙_}
 use borrow.Author.Needs.{needs}
+use borrow.Author.Tests.{eq-eqb, ne-eqb}
+use Rattle.chain.specs.Paper.{no-run}
+use Rattle.chain.specs.State.{openNumber}
+use Rattle.chain.proofs.Numbers.{state-of-open}
 use Rattle.chain.proofs.state.state_number.Statement.{statement}
 use Rattle.chain.proofs.state.state_number.Tie as tie
 
 returns : tie.Need-returns
-unfolding stateNumber openNumber
-returns c = simp (← (c .before .bad-chain .ensures), (c .if1 .taken))
+returns c =
+    let a = c .before .before .args in
+    let n = c .before .open-number .ensures in
+    sym (state-of-open (a .c) (a .len) ∙ rw (eq-eqb (openNumber (a .c) (a .len)) no-run (sym n ∙ c .if1 .taken)))
 
 returns-2 : tie.Need-returns-2
-unfolding stateNumber openNumber
-returns-2 c = simp (← (c .before .before .before .bad-chain .ensures), (c .before .before .if1 .left), ← (c .before .ill-formed .ensures), (c .if2 .taken))
-
-returns-3 : tie.Need-returns-3
-unfolding stateNumber openNumber
-returns-3 c = simp (← (c .before .before .before .bad-chain .ensures), (c .before .before .if1 .left), ← (c .before .ill-formed .ensures), (c .if2 .left))
+returns-2 c =
+    let a = c .before .before .args in
+    let n = c .before .open-number .ensures in
+    n ∙ sym (state-of-open (a .c) (a .len) ∙ rw (ne-eqb (openNumber (a .c) (a .len)) no-run (λ e. c .if1 .left (n ∙ e))))
 
 pub state-number-spec : {M : Type 1} → statement M
-state-number-spec =
-    tie.close (tie.spec (search needs) returns (search needs) returns-2 returns-3)
+state-number-spec = tie.close (tie.spec (search needs) returns returns-2)
