@@ -52,21 +52,46 @@ module _ (c : Chain) (m : List ℕ) (g : Bytes (c .registers)) (u : Bytes m) whe
       pick-bytes (refusesFF c) (0xff ∷ []) (endLow p ∷ window c m (p .start) last) (bytes-below (0xff ∷ []) refl) (low-byte p, window-bytes (p .start) last)
 
   each-bytes : EachBytes (closingRows c m)
-  each-bytes =
-      (bytes-below (0x00 ∷ []) refl,
-      (bytes-below (0x00 ∷ []) refl,
-      ((bytes-at (c .registers) g (c .place .device), bytes-below (0x00 ∷ 0x00 ∷ 0x00 ∷ no-windows ∷ postamble ∷ []) refl),
-      (bytes-below (0x00 ∷ 0x00 ∷ 0x00 ∷ no-windows ∷ postamble ∷ []) refl,
-      (bytes-below (0x00 ∷ 0x00 ∷ no-windows ∷ postamble ∷ []) refl,
-      (bytes-below (0x00 ∷ no-windows ∷ postamble ∷ []) refl,
-      (bytes-below (no-windows ∷ postamble ∷ []) refl,
-      (bytes-below (postamble ∷ []) refl,
-      (bytes-below (0x00 ∷ 0xff ∷ 0xff ∷ []) refl,
-      (bytes-below (0xff ∷ 0xff ∷ []) refl,
-      (start-bytes,
-      (bytes-below (0xff ∷ 0xff ∷ []) refl,
-      (end-bytes,
-      (window-bytes (c .place .next) (c .place .end), tt))))))))))))))
+  each-bytes = (
+    bytes-below (0x00 ∷ []) refl,
+    (
+      bytes-below (0x00 ∷ []) refl,
+      (
+        (bytes-at (c .registers) g (c .place .device), bytes-below (0x00 ∷ 0x00 ∷ 0x00 ∷ no-windows ∷ postamble ∷ []) refl),
+        (
+          bytes-below (0x00 ∷ 0x00 ∷ 0x00 ∷ no-windows ∷ postamble ∷ []) refl,
+          (
+            bytes-below (0x00 ∷ 0x00 ∷ no-windows ∷ postamble ∷ []) refl,
+            (
+              bytes-below (0x00 ∷ no-windows ∷ postamble ∷ []) refl,
+              (
+                bytes-below (no-windows ∷ postamble ∷ []) refl,
+                (
+                  bytes-below (postamble ∷ []) refl,
+                  (
+                    bytes-below (0x00 ∷ 0xff ∷ 0xff ∷ []) refl,
+                    (
+                      bytes-below (0xff ∷ 0xff ∷ []) refl,
+                      (
+                        start-bytes,
+                        (
+                          bytes-below (0xff ∷ 0xff ∷ []) refl,
+                          (
+                            end-bytes,
+                            (window-bytes (c .place .next) (c .place .end), tt),
+                          ),
+                        ),
+                      ),
+                    ),
+                  ),
+                ),
+              ),
+            ),
+          ),
+        ),
+      ),
+    ),
+  )
 
   pub closing-are-bytes : Bytes (closingBytes c m)
   unfolding closingBytes

@@ -13,7 +13,7 @@ use Rattle.chain.specs.declared.Chain.{Chain}
 use Rattle.chain.specs.declared.Place.{Place}
 use Rattle.chain.specs.Paper.{more}
 use Rattle.chain.specs.Set.{with·place, closedPlace}
-use Rattle.machine.specs.Byte.{numberOf}
+use Rattle.awaited.specs.Byte.{numberOf}
 use Rattle.machine.specs.Run.{Run, run, ended, stepOf, runOf}
 use Rattle.machine.proofs.Feed.{run-append, run-over}
 

@@ -18,7 +18,7 @@ use Rattle.chain.specs.Rules.{pick}
 use Rattle.chain.specs.Set.{with·awaited, with·left, with·control, with·start, with·end, with·next, with·place}
 use Rattle.chain.specs.Kinds.{sizeAt, baseOf, sizeHere}
 use Rattle.chain.specs.Window.{withLow}
-use Rattle.machine.specs.Byte.{awaits, checks, badStart, badEnd, noWindow, numberOf, passedOf, advanceOf}
+use Rattle.awaited.specs.Byte.{awaits, checks, badStart, badEnd, noWindow, numberOf, passedOf, advanceOf}
 use Rattle.machine.specs.Run.{addressOf, memoryOf, registersOf, missedOf, counted, run, stepOf, runOf}
 use Rattle.machine.specs.Block.{missesOf}
 use Rattle.machine.proofs.Block.{blockOf, block, misses-same, laid-same}

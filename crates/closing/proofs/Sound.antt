@@ -15,7 +15,7 @@ use Rattle.chain.proofs.Sizes.{size-most, size-least}
 use Rattle.chain.proofs.ByCases.{by-test}
 use Rattle.chain.proofs.BadChain.{m-known}
 use Rattle.chain.proofs.Sound.{sound-of}
-use Rattle.machine.specs.Byte.{checks}
+use Rattle.awaited.specs.Byte.{checks}
 use Rattle.closing.specs.Closing.{storedRegister}
 
 -- a device's memory ends where that of a later one begins, or before

@@ -17,7 +17,7 @@ use Rattle.chain.specs.Rules.{pick, from}
 use Rattle.chain.specs.Set.{with·place, with·control}
 use Rattle.chain.specs.Kinds.{sizeOf, baseOf, sizeHere}
 use Rattle.chain.specs.Calls.{firstOnly, freshChain}
-use Rattle.machine.specs.Byte.{numberOf, advanceOf}
+use Rattle.awaited.specs.Byte.{numberOf, advanceOf}
 use Rattle.machine.specs.Run.{Run, run, memoryOf, registersOf, missedOf, ended, stepOf, runOf}
 use Rattle.machine.specs.Calls.{openedPlace}
 use Rattle.machine.proofs.Feed.{run-at, run-end}

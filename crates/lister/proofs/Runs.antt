@@ -16,7 +16,7 @@ use Rattle.chain.specs.Rules.{pick}
 use Rattle.chain.specs.Set.{with·running, with·check, with·awaited, with·left, with·start, with·end, with·next, with·taken, with·mismatches, with·place}
 use Rattle.chain.specs.Kinds.{baseOf, sizeHere}
 use Rattle.chain.specs.Window.{widthOf}
-use Rattle.machine.specs.Byte.{numberOf, advanceOf, passedOf}
+use Rattle.awaited.specs.Byte.{numberOf, advanceOf, passedOf}
 use Rattle.machine.specs.Run.{Run, run, addressOf, memoryOf, registersOf, missedOf, ended, stepOf, runOf}
 use Rattle.machine.specs.Block.{missesOf, laidOf}
 use Rattle.machine.proofs.Feed.{run-at, run-end, run-over, run-part}

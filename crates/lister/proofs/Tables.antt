@@ -18,7 +18,7 @@ use Rattle.lister.specs.declared.Listed.{Listed}
 use Rattle.lister.specs.Stops.{ifDone}
 use Rattle.lister.specs.Windows.{readWindowOf, windowsStop, windowsOf}
 use Rattle.lister.specs.Listing.{preambleAt, countAt, listStop, listedOf, listingOf, startsOf, endsOf, offsetsOf, listed, listing, Lists}
-use Rattle.lister.proofs.Windows.{windows-first, windows-list-none, windows-length, next-is, reach}
+use Rattle.lister.proofs.Windows.{Whole, windows-first, windows-list-none, windows-length, next-is, reach}
 use Rattle.lister.proofs.Listings.{list-done}
 
 -- what is left to write from i on gives the whole table
@@ -55,11 +55,9 @@ module _ (size : ℕ) (s : List ℕ) (n p : ℕ) (starts₀ ends₀ offsets₀ :
 
 module _ {size : ℕ} {s : List ℕ} {n p : ℕ} {starts₀ ends₀ offsets₀ starts ends offsets : List ℕ} {at i : ℕ}
     (f : Filling size s n p starts₀ ends₀ offsets₀ starts ends offsets at i) where
-  -- where the window at hand stands
-  pub filling-first : i < n → (readWindowOf size s at .first ≡ at + 5)
-  filling-first h =
-      let w = windows-first size s (n - i) at (omega arith) (f .sound) in
-      ap (λ (r : ReadWindow). r .first) (w .0 .reads)
+  -- the window at hand
+  pub filling-whole : i < n → Whole size s at
+  filling-whole h = windows-first size s (n - i) at (omega arith) (f .sound) .0
 
   pub filling-more : size ≤ 65535 → i < n → (r : ReadWindow) → r ≡ readWindowOf size s at
       → Filling size s n p starts₀ ends₀ offsets₀ (set starts i (r .start)) (set ends i (r .end)) (set offsets i (r .first - p)) (r .next) (i + 1)

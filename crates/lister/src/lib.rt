@@ -6,7 +6,7 @@ use crate::stream::HEAD_LENGTH;
 use crate::stream::Stop;
 use crate::stream::preamble_at;
 use crate::stream::read_stream;
-use crate::window::read_window;
+use crate::window::whole_window;
 use chain::kinds::size_of;
 use chain::paper::*;
 ghost use mathlib.Core.Path.{_≡_};
@@ -103,7 +103,7 @@ fn fill(
     let mut at = p + HEAD_LENGTH;
     let mut i: usize = 0;
     while i < n {
-        let w = read_window(size, s, at);
+        let w = whole_window(s, at);
         starts[i] = w.start;
         ends[i] = w.end;
         offsets[i] = (w.first - p) as u32;

@@ -68,6 +68,13 @@ cases P size (s ∷ ss) (e ∷ es) a b c =
     either true x y p q = p
     either false x y p q = q
 
+-- so where it is not 0, it is the number of the first rule of windows that holds
+pub refuses : (size : ℕ) (ss es : List ℕ) (x : ℕ) → (windowsNumber size ss es ≡ done → ⊥)
+    → pick (eqb (windowsNumber size ss es) bad-start) bad-start (pick (eqb (windowsNumber size ss es) bad-end) bad-end x) ≡ windowsNumber size ss es
+refuses size ss es x =
+    cases (λ (n : ℕ). (n ≡ done → ⊥) → pick (eqb n bad-start) bad-start (pick (eqb n bad-end) bad-end x) ≡ n) size ss es
+    (λ z. absurd (z refl)) (λ _. refl) (λ _. refl)
+
 -- what 0 tells of a call; len, long and room as in writeRules
 pub record Accepted (kind mode : ℕ) (ss es : List ℕ) (len long room : ℕ) : Type 0 where
   pub known : sizeOf kind ≡ 0 → ⊥

@@ -3,6 +3,7 @@ pub mod Windows
 pub mod Turn
 pub mod Parts
 pub mod Accepted
+pub mod Copied
 pub mod TablesFit
 pub mod Answers
 pub mod Only

@@ -1,4 +1,5 @@
 // The stream writer for one device. All is tested, and the length worked out, before a byte is written.
+mod blocks;
 mod put;
 mod refusal;
 

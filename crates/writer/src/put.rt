@@ -1,4 +1,5 @@
 // Each part of the stream is lent the tail of the output, writes its front and answers its length.
+use crate::blocks::copy_blocks;
 use cells::copy;
 use chain::paper::*;
 use chain::window::width;
@@ -12,21 +13,32 @@ ghost use Rattle.writer.specs.Write.{most-windows, sumOf};
 
 const NULL: u8 = 0x00;
 
-fn lead_in(mode: u8, out: &mut [u8]) -> usize
+// How long the lead-in is.
+pub(crate) fn lead(mode: u8) -> usize
+    ensures { λ r. ⌜ (r ≡ length (leadIn mode)) × (r ≤ 2) ⌝ }
+{
+    if (mode == SERIAL_EXTERNAL) | (mode == SERIAL_INTERNAL) {
+        return 2;
+    }
+    if mode == TWO_PREAMBLES {
+        return 2;
+    }
+    1
+}
+
+fn lead_in(mode: u8, out: &mut [u8])
     requires { ⌜ 2 ≤ length (now out) ⌝ }
-    ensures { λ r. ⌜ r ≡ length (leadIn mode) ⌝ }
     ensures { λ _. ⌜ now (out .exit) ≡ over (leadIn mode) (now (out .entry)) ⌝ }
 {
     if (mode == SERIAL_EXTERNAL) | (mode == SERIAL_INTERNAL) {
         copy(out, &[NULL, PREAMBLE]);
-        return 2;
+        return;
     }
     if mode == TWO_PREAMBLES {
         copy(out, &[PREAMBLE, PREAMBLE]);
-        return 2;
+        return;
     }
     copy(out, &[PREAMBLE]);
-    1
 }
 
 // All before the windows, of which there are n.
@@ -35,7 +47,8 @@ fn head(mode: u8, control: u8, address: [u8; 3], n: usize, out: &mut [u8]) -> us
     ensures { λ r. ⌜ r ≡ length (leadIn mode) + 5 ⌝ }
     ensures { λ _. ⌜ now (out .exit) ≡ over (headBytes mode control address n) (now (out .entry)) ⌝ }
 {
-    let at = lead_in(mode, out);
+    lead_in(mode, out);
+    let at = lead(mode);
     let count = NO_WINDOWS - n as u8;
     copy(
         &mut out[at..],
@@ -63,7 +76,7 @@ fn window(start: u16, end: u16, cells: &[u8], out: &mut [u8]) -> usize
     ensures { λ _. ⌜ now (out .exit) ≡ over (windowBytes start end (now (cells .entry))) (now (out .entry)) ⌝ }
 {
     framing(start, end, out);
-    copy(&mut out[5..], cells);
+    copy_blocks(cells, &mut out[5..]);
     5 + cells.len()
 }
 

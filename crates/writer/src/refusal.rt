@@ -1,60 +1,50 @@
 // The writer's number, in document 01's order.
+use crate::put::lead;
 use chain::kinds::size_of;
 use chain::paper::*;
 use chain::window::width;
 ghost use mathlib.Core.Path.{_≡_};
 ghost use Prim.Native.Nat.{_+_, _*_, _≤_};
 ghost use lib.ListN.{length};
+ghost use Rattle.chain.specs.Paper.{done};
 ghost use Rattle.writer.specs.Stream.{leadIn};
 ghost use Rattle.writer.specs.Write.{most-windows, windowsNumber, sumOf, numberOf};
 
 const MOST_WINDOWS: usize = 255;
 
-// Window by window, 11 or 12, or 0.
-fn windows_number(size: u16, starts: &[u16], ends: &[u16]) -> u8
-    requires { ⌜ length (now starts) ≡ length (now ends) ⌝ }
-    ensures { λ r. ⌜ r ≡ windowsNumber size (now (starts .entry)) (now (ends .entry)) ⌝ }
+// What the tables of windows give.
+struct Summed {
+    number: u8,
+    sum: usize,
+}
+
+// Window by window, 11 or 12, or 0 and the sum of the windows, in one pass. With 255 of them at most the sum cannot wrap.
+fn tables(size: u16, starts: &[u16], ends: &[u16]) -> Summed
+    requires { ⌜ (length (now starts) ≡ length (now ends)) × (length (now starts) ≤ most-windows) ⌝ }
+    ensures { λ r. ⌜ r .number ≡ windowsNumber size (now (starts .entry)) (now (ends .entry)) ⌝ }
+    ensures { λ r. ⌜ (r .number ≡ done → (r .sum ≡ sumOf (now (starts .entry)) (now (ends .entry))) × (r .sum ≤ 65536 * most-windows)) ⌝ }
 {
+    let mut sum: usize = 0;
     let mut i: usize = 0;
     while i < starts.len() {
         let start = starts[i];
         let end = ends[i];
         if !(start < size) {
-            return BAD_START;
+            return Summed {
+                number: BAD_START,
+                sum: 0,
+            };
         }
         if (end < start) | !(end < size) {
-            return BAD_END;
+            return Summed {
+                number: BAD_END,
+                sum: 0,
+            };
         }
+        sum += width(start, end);
         i += 1;
     }
-    DONE
-}
-
-// The sum of the windows. With 255 of them at most it cannot wrap.
-fn sum(starts: &[u16], ends: &[u16]) -> usize
-    requires { ⌜ (length (now starts) ≡ length (now ends)) × (length (now starts) ≤ most-windows) ⌝ }
-    ensures { λ r. ⌜ (r ≡ sumOf (now (starts .entry)) (now (ends .entry))) × (r ≤ 65536 * most-windows) ⌝ }
-{
-    let mut total: usize = 0;
-    let mut i: usize = 0;
-    while i < starts.len() {
-        total += width(starts[i], ends[i]);
-        i += 1;
-    }
-    total
-}
-
-// How long the lead-in is.
-fn lead(mode: u8) -> usize
-    ensures { λ r. ⌜ (r ≡ length (leadIn mode)) × (r ≤ 2) ⌝ }
-{
-    if (mode == SERIAL_EXTERNAL) | (mode == SERIAL_INTERNAL) {
-        return 2;
-    }
-    if mode == TWO_PREAMBLES {
-        return 2;
-    }
-    1
+    Summed { number: DONE, sum }
 }
 
 // `len` is the length of the data, `room` that of the output. Beside lead-in and data a stream has six bytes, and five for each window.
@@ -81,18 +71,14 @@ pub(crate) fn number(
     if MOST_WINDOWS < starts.len() {
         return BAD_TABLES;
     }
-    let window = windows_number(size, starts, ends);
-    if window == BAD_START {
-        return BAD_START;
+    let t = tables(size, starts, ends);
+    if t.number != DONE {
+        return t.number;
     }
-    if window == BAD_END {
-        return BAD_END;
-    }
-    let all = sum(starts, ends);
-    if len != all {
+    if len != t.sum {
         return BAD_DATA;
     }
-    if room < lead(mode) + 6 + 5 * starts.len() + all {
+    if room < lead(mode) + 6 + 5 * starts.len() + t.sum {
         return TOO_SHORT;
     }
     DONE

@@ -11,14 +11,14 @@ use Rattle.writer.proofs.put.head.Tie as tie
 
 returns : tie.Need-returns
 returns c =
-    let start = c .before .before .before .before .before .before .before in
-    let a = start .before .before .before .args in
-    let lead = start .lead-in in
+    let at = c .before .before .before .before .before in
+    let led = at .before .before .before in
+    let a = led .before .before .before .args in
     let u : List ℕ = a .control ∷ getD (a .t3) 0 0 ∷ getD (a .t3) 1 0 ∷ getD (a .t3) 2 0 ∷ (no-windows - a .n) ∷ [] in
-    (omega arith, then-copied (lead .result) (leadIn (a .mode)) u (a .out .now) _ _ (lead .ensures .0) (omega arith) (lead .ensures .1) (c .before .before .copy .ensures))
+    (omega arith, then-copied (at .lead .result) (leadIn (a .mode)) u (a .out .now) _ _ (at .lead .ensures .0) (omega arith) (led .lead-in .ensures) (c .before .before .copy .ensures))
 
 pub head-spec : {M : Type 1} → statement M
 head-spec =
-    tie.close (tie.spec (λ c κs. search needs) (λ c. search needs) (λ c. search needs) (λ c. search needs)
+    tie.close (tie.spec (λ c κs. search needs) (λ c κs. search needs) (λ c. search needs) (λ c. search needs) (λ c. search needs)
     (λ c. search needs) (λ c. search needs) (λ c. search needs) (λ c. search needs) (λ c. search needs)
     (λ c. search needs) (λ c κs. search needs) (λ c. search needs) (λ c. search needs) returns)

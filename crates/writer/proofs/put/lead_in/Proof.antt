@@ -1,5 +1,5 @@
 use Prim.Native.Nat.{_-_}
-use mathlib.Core.Path.{refl, _∙_}
+use mathlib.Core.Path.{_∙_}
 use mathlib.Core.List.{[], _∷_}
 use native.Mathlib.Omega.{arith}
 use Rattle.chain.proofs.Tests.{tests}
@@ -15,19 +15,19 @@ returns : tie.Need-returns
 unfolding leadIn
 returns c =
     let t = c .before .before .before .before .before in
-    simp (t .if1 .taken) (refl, c .before .before .copy .ensures ∙ copied (nullByte ∷ preamble ∷ []) (t .before .before .args .out .now) (search needs))
+    simp (t .if1 .taken) (c .before .before .copy .ensures ∙ copied (nullByte ∷ preamble ∷ []) (t .before .before .args .out .now) (search needs))
 
 returns-2 : tie.Need-returns-2
 unfolding leadIn
 returns-2 c =
     let t = c .before .before .before .before .before in
-    simp (t .if2 .taken) (refl, c .before .before .copy2 .ensures ∙ copied (preamble ∷ preamble ∷ []) (t .before .before .before .args .out .now) (search needs))
+    simp (t .if2 .taken) (c .before .before .copy2 .ensures ∙ copied (preamble ∷ preamble ∷ []) (t .before .before .before .args .out .now) (search needs))
 
 returns-3 : tie.Need-returns-3
 unfolding leadIn
 returns-3 c =
     let t = c .before .before .before .before .before .before in
-    simp (t .if1 .left) (search tests, c .before .before .copy3 .ensures ∙ copied (preamble ∷ []) (t .before .before .args .out .now) (omega arith) ∙ search tests)
+    simp (t .if1 .left) (c .before .before .copy3 .ensures ∙ copied (preamble ∷ []) (t .before .before .args .out .now) (omega arith) ∙ search tests)
 
 pub lead-in-spec : {M : Type 1} → statement M
 lead-in-spec =

@@ -2,7 +2,7 @@ use mathlib.Core.Path.{refl, _∙_}
 use mathlib.Core.List.{[], _++_}
 use native.Mathlib.Omega.{arith}
 use Rattle.writer.specs.Stream.{windowBytes}
-use Rattle.writer.proofs.Over.{then-copied, over-is}
+use Rattle.writer.proofs.Over.{then-over, over-is}
 use Rattle.writer.proofs.Parts.{window-parts}
 use borrow.Author.Needs.{needs}
 use Rattle.writer.proofs.put.window.Statement.{statement}
@@ -14,7 +14,7 @@ returns c =
     let start = framed .before .before .before .before in
     let a = start .args in (
       omega arith,
-      then-copied 5 (windowBytes (a .start) (a .end) []) (a .cells .now) (a .out .now) _ _ refl (start .pre) (framed .framing .ensures) (c .before .before .copy .ensures)
+      then-over 5 (windowBytes (a .start) (a .end) []) (a .cells .now) (a .out .now) _ _ refl (framed .framing .ensures) (c .before .before .copy-blocks .ensures)
           ∙ over-is (windowBytes (a .start) (a .end) [] ++ a .cells .now) (windowBytes (a .start) (a .end) (a .cells .now)) (a .out .now)
           (window-parts (a .start) (a .end) (a .cells .now)),
     )

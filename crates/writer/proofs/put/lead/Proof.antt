@@ -1,8 +1,8 @@
 use borrow.Author.Needs.{needs}
 use Rattle.chain.proofs.Tests.{tests}
 use Rattle.writer.specs.Stream.{leadIn}
-use Rattle.writer.proofs.refusal.lead.Statement.{statement}
-use Rattle.writer.proofs.refusal.lead.Tie as tie
+use Rattle.writer.proofs.put.lead.Statement.{statement}
+use Rattle.writer.proofs.put.lead.Tie as tie
 
 returns : tie.Need-returns
 unfolding leadIn
