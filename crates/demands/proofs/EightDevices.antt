@@ -12,7 +12,7 @@ use Rattle.chain.specs.Set.{with·mode, with·check, with·device, with·awaite
 use Rattle.chain.specs.Kinds.{sizeOf, baseOf, knownOf}
 use Rattle.chain.specs.Paper.{writing, checking, done}
 use Rattle.chain.specs.State.{badChain, unusedZero, wellFormed, illFormed, stateNumber, feedNumber}
-use Rattle.machine.specs.Byte.{numberOf, passedOf, advanceOf}
+use Rattle.awaited.specs.Byte.{numberOf, passedOf, advanceOf}
 use Rattle.machine.specs.Run.{addressOf, memoryOf, registersOf, missedOf, stepOf, runOf}
 use Rattle.machine.specs.Calls.{startNumber, startOf, fedOf, sliceOf, sliceMemory}
 use Rattle.grammar.specs.Stream.{Section, streamSent}

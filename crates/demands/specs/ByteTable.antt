@@ -8,7 +8,7 @@ use Rattle.chain.specs.declared.Chain.{Chain}
 use Rattle.chain.specs.Paper.{preamble, postamble, at·preamble, at·second, at·control, at·start-low, at·end-low, at·check, checking, two-preambles, done, no-preamble, barred, no-check, bad-check-byte, ends-here, last-device, bad-start, bad-end, more, bit2, bit3, bit4}
 use Rattle.chain.specs.Kinds.{sizeHere}
 use Rattle.chain.specs.Window.{withLow}
-use Rattle.machine.specs.Byte.{nextDevice}
+use Rattle.awaited.specs.Byte.{nextDevice}
 use Rattle.machine.specs.Calls.{sliceOf}
 use Rattle.chain.specs.WellFormed.{Sets}
 use Rattle.chain.specs.Table.{Claim, _when_, feedTable}

@@ -10,7 +10,7 @@ use Rattle.chain.specs.Paper.{at·address, at·count, at·null, at·end-low, at
 use Rattle.chain.specs.Rules.{pick}
 use Rattle.chain.specs.Set.{with·check, with·awaited, with·left, with·end, with·place}
 use Rattle.chain.specs.State.{feedNumber}
-use Rattle.machine.specs.Byte.{awaits}
+use Rattle.awaited.specs.Byte.{awaits}
 use Rattle.machine.specs.Run.{writes, addressOf, ended, Run, run, stepOf}
 use Rattle.machine.specs.Calls.{answered, fedOf}
 use Rattle.demands.specs.Loader.{Loader, AfterSlice, with·slice, with·closing, with·list}

@@ -13,7 +13,7 @@ use borrow.Author.Tests.{eqb-true, eqb-false}
 use Rattle.chain.specs.declared.Chain.{Chain}
 use Rattle.chain.specs.Paper.{at·data, done, more}
 use Rattle.chain.proofs.ByCases.{by-test}
-use Rattle.machine.specs.Byte.{awaits, numberOf}
+use Rattle.awaited.specs.Byte.{awaits, numberOf}
 use Rattle.machine.specs.Run.{writes, memoryOf, Run, run, wentOn, runOf}
 use Rattle.machine.proofs.Runs.{run-went, run-ended}
 use Rattle.grammar.proofs.runs.Blind.{blind}

@@ -10,7 +10,7 @@ use Rattle.chain.specs.declared.Chain.{Chain}
 use Rattle.chain.specs.Paper.{more}
 use Rattle.chain.specs.Bytes.{Bytes}
 use Rattle.chain.proofs.ByCases.{by-test}
-use Rattle.machine.specs.Byte.{numberOf}
+use Rattle.awaited.specs.Byte.{numberOf}
 use Rattle.machine.specs.Run.{writes, run, wentOn, runOf}
 use Rattle.grammar.specs.Sent.{Sent, bytesOf, Store, Slot, no-slot, index, slot}
 use Rattle.grammar.specs.Stores.{walkOf}

@@ -13,7 +13,7 @@ use Rattle.chain.specs.declared.Chain.{Chain}
 use Rattle.chain.specs.Paper.{at·control, at·data, writing, checking, more}
 use Rattle.chain.specs.Rules.{pick}
 use Rattle.chain.proofs.ByCases.{by-test}
-use Rattle.machine.specs.Byte.{awaits, checks, numberOf}
+use Rattle.awaited.specs.Byte.{awaits, checks, numberOf}
 use Rattle.machine.specs.Run.{writes, addressOf, memoryOf, missedOf, counted, run, wentOn, runOf}
 use Rattle.machine.proofs.Frame.{advance-frame}
 use Rattle.machine.proofs.Runs.{run-went, run-ended}

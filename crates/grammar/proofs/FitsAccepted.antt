@@ -17,7 +17,7 @@ use Rattle.chain.specs.Rules.{pick}
 use Rattle.chain.specs.Set.{with·awaited, with·left, with·control, with·start, with·end, with·next, with·device, with·place}
 use Rattle.chain.proofs.ByCases.{by-test}
 use Rattle.chain.specs.Window.{withLow}
-use Rattle.machine.specs.Byte.{numberOf, noWindow, passedOf, advanceOf}
+use Rattle.awaited.specs.Byte.{numberOf, noWindow, passedOf, advanceOf}
 use Rattle.machine.specs.Run.{addressOf, registersOf, missedOf, counted, Run, run, wentOn, runOf}
 use Rattle.machine.specs.Calls.{openedPlace}
 use Rattle.machine.specs.Block.{missesOf, laidOf}

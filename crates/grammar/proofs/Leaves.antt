@@ -13,7 +13,7 @@ use Rattle.chain.specs.Paper.{writing, more}
 use Rattle.chain.specs.Rules.{pick}
 use Rattle.chain.specs.Set.{with·place}
 use Rattle.chain.proofs.ByCases.{by-test}
-use Rattle.machine.specs.Byte.{checks}
+use Rattle.awaited.specs.Byte.{checks}
 use Rattle.machine.specs.Run.{writes, Run, run, runOf}
 use Rattle.machine.specs.Calls.{openedPlace}
 use Rattle.machine.proofs.Runs.{run-lasts}

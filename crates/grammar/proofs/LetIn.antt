@@ -16,7 +16,7 @@ use Rattle.chain.proofs.ByCases.{by-test}
 use Rattle.chain.proofs.FirstOf.{None, first-none}
 use Rattle.chain.proofs.Means.{said, reads}
 use Rattle.chain.proofs.Sound.{Sound}
-use Rattle.machine.specs.Byte.{awaits, begins, registerBegun, byteRules, numberOf}
+use Rattle.awaited.specs.Byte.{awaits, begins, registerBegun, byteRules, numberOf}
 use Rattle.machine.specs.Run.{writes, registersOf, wentOn}
 use Rattle.machine.specs.Calls.{openedPlace}
 use Rattle.grammar.proofs.EachSent.{Each, each-lead, each-windows}

@@ -14,7 +14,7 @@ use Rattle.chain.specs.Paper.{preamble, postamble, no-windows, at·preamble, at
 use Rattle.chain.specs.Rules.{pick}
 use Rattle.chain.specs.Set.{with·place, with·awaited, with·left, with·control, with·device}
 use Rattle.chain.proofs.ByCases.{by-test}
-use Rattle.machine.specs.Byte.{nextDevice, advanceOf}
+use Rattle.awaited.specs.Byte.{nextDevice, advanceOf}
 use Rattle.machine.specs.Run.{registersOf, missedOf, wentOn}
 use Rattle.machine.specs.Calls.{openedPlace}
 use Rattle.chain.specs.Kinds.{sizeAt}

@@ -11,7 +11,7 @@ use Rattle.chain.specs.declared.Place.{Place}
 use Rattle.chain.specs.Paper.{preamble, postamble, at·preamble, at·second, at·start-low, at·end-low, at·check, done, more, B2}
 use Rattle.chain.specs.Rules.{Rule, _gives_, firstOf}
 use Rattle.chain.specs.Set.{with·place}
-use Rattle.machine.specs.Byte.{awaits, onLast, badStart, badEnd, byteRules, numberOf}
+use Rattle.awaited.specs.Byte.{awaits, onLast, badStart, badEnd, byteRules, numberOf}
 use Rattle.machine.specs.Run.{wentOn}
 use Rattle.grammar.specs.Sent.{Sent, frame}
 use Rattle.chain.specs.Bytes.{Bytes}

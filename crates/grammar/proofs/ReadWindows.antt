@@ -13,7 +13,7 @@ use Rattle.chain.specs.declared.Place.{Place}
 use Rattle.chain.specs.Paper.{at·null, at·start, at·start-low, at·end, at·end-low, at·data, at·check}
 use Rattle.chain.specs.Set.{with·place, with·awaited, with·left, with·start, with·end, with·next}
 use Rattle.chain.specs.Window.{withLow}
-use Rattle.machine.specs.Byte.{noWindow, passedOf, advanceOf}
+use Rattle.awaited.specs.Byte.{noWindow, passedOf, advanceOf}
 use Rattle.machine.specs.Run.{addressOf, registersOf, missedOf, counted, wentOn}
 use Rattle.chain.specs.Kinds.{sizeAt}
 use Rattle.grammar.specs.Stream.{baseAt, Window, dataSent, windowSent, windowsSent}

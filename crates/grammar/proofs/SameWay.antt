@@ -11,7 +11,7 @@ use Rattle.chain.specs.declared.Chain.{Chain}
 use Rattle.chain.specs.Paper.{at·check, writing, checking, done, barred, more, B4}
 use Rattle.chain.specs.Rules.{pick, Rule, _gives_, firstOf}
 use Rattle.chain.proofs.ByCases.{by-test}
-use Rattle.machine.specs.Byte.{awaits, checks, begins, nextDevice, registerBegun, byteRules, numberOf}
+use Rattle.awaited.specs.Byte.{awaits, checks, begins, nextDevice, registerBegun, byteRules, numberOf}
 use Rattle.machine.specs.Run.{writes, addressOf, registersOf, missedOf, wentOn}
 use Rattle.grammar.specs.Sent.{Target, Sent, memory, registers, Slot, no-slot, index, slot, after}
 use Rattle.grammar.specs.Stores.{aim, walkOf}

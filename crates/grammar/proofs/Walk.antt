@@ -11,7 +11,7 @@ use borrow.Author.Tests.{eqb-true, eqb-false}
 use Rattle.chain.specs.declared.Chain.{Chain}
 use Rattle.chain.specs.Paper.{at·control, at·data, more}
 use Rattle.chain.proofs.ByCases.{by-test}
-use Rattle.machine.specs.Byte.{awaits, numberOf}
+use Rattle.awaited.specs.Byte.{awaits, numberOf}
 use Rattle.machine.specs.Run.{addressOf, memoryOf, registersOf, missedOf, counted, ended, Run, run, wentOn, runOf}
 use Rattle.grammar.proofs.runs.Blind.{still, went-still}
 use Rattle.machine.proofs.Frame.{advance-frame}

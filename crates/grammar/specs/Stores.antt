@@ -8,7 +8,7 @@ use lib.ListN.{set}
 use Rattle.chain.specs.declared.Chain.{Chain}
 use Rattle.chain.specs.Paper.{at·control, at·data, more}
 use Rattle.chain.specs.Rules.{pick}
-use Rattle.machine.specs.Byte.{awaits, numberOf}
+use Rattle.awaited.specs.Byte.{awaits, numberOf}
 use Rattle.machine.specs.Run.{writes, loads, addressOf, wentOn}
 use Rattle.grammar.specs.Sent.{Target, framing, register, cell, Sent, frame, Store, memory, registers}
 

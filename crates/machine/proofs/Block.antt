@@ -16,7 +16,7 @@ use Rattle.chain.specs.declared.Place.{Place}
 use Rattle.chain.specs.Paper.{at·data, writing, checking, more}
 use Rattle.chain.specs.Rules.{pick}
 use Rattle.chain.specs.Set.{with·next, with·place}
-use Rattle.machine.specs.Byte.{numberOf, passedOf, advanceOf}
+use Rattle.awaited.specs.Byte.{numberOf, passedOf, advanceOf}
 use Rattle.machine.specs.Run.{addressOf, memoryOf, registersOf, missedOf, counted, Run, run, stepOf, runOf}
 use Rattle.machine.specs.Block.{unlikeAt, missesOf, laidOf}
 

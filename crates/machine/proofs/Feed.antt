@@ -8,7 +8,7 @@ use native.Mathlib.Omega.{arith}
 use borrow.Author.Tests.{ne-eqb, eqb-false}
 use lib.Dec.{eqb}
 use lib.ListN.{length, getD, take, drop, drop-of-length-le, take-append-drop, length-drop}
-use lib.Seq.{take-all, drop-cons, drop-drop}
+use lib.Seq.{take-all, drop-cons, drop-drop, length-take-le}
 use Rattle.chain.specs.declared.Chain.{Chain}
 use Rattle.chain.specs.Paper.{more}
 use Rattle.chain.specs.Rules.{pick}
@@ -35,6 +35,21 @@ module _ (r : Run) (b : ℕ) (bs : List ℕ) where
   pub first-off : eqb (r .number) more ≡ false → runOf r (b ∷ bs) ≡ r
   first-off e = run-over (b ∷ bs) r (eqb-false (r .number) more e)
 
+-- k bytes further, as a lent front has them
+pub run-front : (c : Chain) (m s : List ℕ) (k : ℕ) (r : Run) → runOf (run c m more) (take k s) ≡ r → runOf (run c m more) s ≡ runOf r (drop k s)
+run-front c m s k r e =
+    ap (λ (x : List ℕ). runOf (run c m more) x) (sym (take-append-drop k s))
+    ∙ run-append (take k s) (drop k s) (run c m more)
+    ∙ ap (λ (x : Run). runOf x (drop k s)) e
+
+-- a lent part of k bytes has k
+pub part-length : (s : List ℕ) (i k : ℕ) → i + k ≤ length s → length (take (i + k - i) (drop i s)) ≡ k
+part-length s i k h = length-take-le (i + k - i) (drop i s) (omega (arith, length-drop i s)) ∙ omega arith
+
+-- u bytes of a lent rest are in the slice
+pub within : (s : List ℕ) (i u : ℕ) → i ≤ length s → u ≤ length (take (length s - i) (drop i s)) → i + u ≤ length s
+within s i u h g = omega (arith, length-take-le (length s - i) (drop i s) (omega (arith, length-drop i s)), h, g)
+
 module _ (c : Chain) (m s : List ℕ) (i : ℕ) where
   pub run-at : i < length s → runOf (run c m more) (drop i s) ≡ runOf (stepOf c m (getD s i 0)) (drop (i + 1) s)
   unfolding runOf
@@ -49,9 +64,7 @@ module _ (c : Chain) (m s : List ℕ) (i : ℕ) where
   run-part k r e =
       let z : i + k - i ≡ k = omega arith in
       let f : runOf (run c m more) (take k (drop i s)) ≡ r = rw z at e in
-      ap (λ (x : List ℕ). runOf (run c m more) x) (sym (take-append-drop k (drop i s)))
-      ∙ run-append (take k (drop i s)) (drop k (drop i s)) (run c m more)
-      ∙ rw (f, drop-drop k i s)
+      run-front c m (drop i s) k r f ∙ ap (runOf r) (drop-drop k i s)
 
   -- u bytes further, as a lent rest has them
   pub run-rest : (u : ℕ) (r : Run) → runOf (run c m more) (take (length s - i) (drop i s)) ≡ runOf r (drop u (take (length s - i) (drop i s)))

@@ -3,10 +3,12 @@ use Prim.Native.Nat.{ℕ, _+_}
 use mathlib.Core.Bool.{Bool}
 use mathlib.Core.Path.{_≡_, refl}
 use lib.Dec.{ltb, leb}
+use Rattle.chain.specs.declared.Chain.{Chain}
 use Rattle.chain.specs.declared.Place.{Place}
+use Rattle.chain.specs.Kinds.{baseOf, sizeHere}
 use Rattle.chain.specs.Rules.{pick}
 use Rattle.chain.proofs.ByCases.{either-way}
-use Rattle.machine.specs.Byte.{passedOf, advanceOf}
+use Rattle.awaited.specs.Byte.{passedOf, advanceOf}
 
 pub record Frame (p q : Place) : Type 0 where
   pub running : q .running ≡ p .running
@@ -29,6 +31,14 @@ unfolding passedOf
 passed-device p n =
     either-way (λ (q : Place). q .device ≡ p .device) (leb (p .next + n) (p .end)) _ _ refl
     (either-way (λ (q : Place). q .device ≡ p .device) (ltb 1 (p .left)) _ _ refl refl)
+
+-- and in a device of the same kinds its size and where its memory begins are the same
+module _ (c d : Chain) (k : d .kinds ≡ c .kinds) (p : d .place .device ≡ c .place .device) where
+  pub same-size : sizeHere c ≡ sizeHere d
+  same-size = rw (k, p)
+
+  pub same-base : baseOf (c .kinds) (c .place .device) ≡ baseOf (d .kinds) (d .place .device)
+  same-base = rw (k, p)
 
 pub advance-frame : (p : Place) (b : ℕ) → Frame p (advanceOf p b)
 unfolding advanceOf passedOf

@@ -15,7 +15,7 @@ use Rattle.chain.specs.Paper.{at·control, at·null, at·start, at·start-low, 
 use Rattle.chain.specs.Set.{with·awaited, with·start, with·end, with·next, with·place}
 use Rattle.chain.specs.Kinds.{sizeAt, sizeHere}
 use Rattle.chain.specs.Window.{withLow, fitsOf}
-use Rattle.machine.specs.Byte.{numberOf, advanceOf}
+use Rattle.awaited.specs.Byte.{numberOf, advanceOf}
 use Rattle.machine.specs.Run.{memoryOf, registersOf, missedOf, counted, Run, run, stepOf, runOf}
 use Rattle.machine.specs.Block.{headedOf}
 
@@ -107,15 +107,21 @@ all-three true true c h = (refl, refl, h)
 all-three true false c h = absurd (false≢true h)
 all-three false b c h = absurd (false≢true h)
 
+-- what a window that fits is
+pub fits-true : (size start end : ℕ) → fitsOf size start end ≡ true → (start < size) × (start ≤ end) × (end < size)
+fits-true size start end f =
+    let t = all-three (ltb start size) (leb start end) (ltb end size) f in
+    (ltb-true start size (t .0), leb-true start end (t .1), ltb-true end size (t .2))
+
 -- five bytes of a slice at its byte i, where the window fits
 pub header-part : (c : Chain) (m s : List ℕ) (i start end : ℕ) → i + 5 ≤ length s → c .place .awaited ≡ at·null
     → start ≡ getD s (i + 1) 0 * 256 + getD s (i + 2) 0 → end ≡ getD s (i + 3) 0 * 256 + getD s (i + 4) 0
     → fitsOf (sizeHere c) start end ≡ true
     → runOf (run c m more) (take (i + 5 - i) (drop i s)) ≡ run (with·place c (headedOf (c .place) start end)) m more
 header-part c m s i start end h e a z f =
-    let t = all-three (ltb start (sizeHere c)) (leb start end) (ltb end (sizeHere c)) f in
-    let x = ltb-true start (sizeHere c) (t .0) in
-    let y = leb-true start end (t .1) in
-    let w = ltb-true end (sizeHere c) (t .2) in
+    let t = fits-true (sizeHere c) start end f in
+    let x = t .0 in
+    let y = t .1 in
+    let w = t .2 in
     rw (five-part s i h, a, z)
     (header-at c m (getD s i 0) (getD s (i + 1) 0) (getD s (i + 2) 0) (getD s (i + 3) 0) (getD s (i + 4) 0) e (rw a at x) (rw (a, z) at y) (rw z at w))

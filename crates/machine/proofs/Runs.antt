@@ -11,7 +11,7 @@ use Rattle.chain.specs.Paper.{at·control, at·data, more}
 use Rattle.chain.specs.Rules.{pick}
 use Rattle.chain.specs.Bytes.{Bytes}
 use Rattle.chain.proofs.ByCases.{by-test, either-way}
-use Rattle.machine.specs.Byte.{awaits, numberOf}
+use Rattle.awaited.specs.Byte.{awaits, numberOf}
 use Rattle.machine.specs.Run.{addressOf, memoryOf, writes, loads, registersOf, ended, Run, run, wentOn, stepOf, onByte, runOf}
 use Rattle.machine.proofs.Feed.{run-over}
 

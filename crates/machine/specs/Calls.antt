@@ -13,7 +13,7 @@ use Rattle.chain.specs.Rules.{pick, Rule, _gives_, firstOf, from}
 use Rattle.chain.specs.Set.{with·running, with·mode, with·check, with·awaited, with·place, closedPlace}
 use Rattle.chain.specs.State.{stateRules, openNumber, feedNumber}
 use Rattle.machine.specs.declared.Fed.{Fed}
-use Rattle.machine.specs.Byte.{numberOf}
+use Rattle.awaited.specs.Byte.{numberOf}
 use Rattle.machine.specs.Run.{ended, goneOn, Run, run, runOf}
 
 -- start: 1, 17, 2, 3

@@ -1,4 +1,3 @@
-pub mod Byte
 pub mod Run
 pub mod Calls
 pub mod Block

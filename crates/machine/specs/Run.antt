@@ -11,7 +11,7 @@ use Rattle.chain.specs.Paper.{at·control, at·data, closed, writing, more}
 use Rattle.chain.specs.Rules.{pick}
 use Rattle.chain.specs.Set.{with·running, with·taken, with·mismatches, with·place}
 use Rattle.chain.specs.Kinds.{baseOf}
-use Rattle.machine.specs.Byte.{awaits, checks, numberOf, advanceOf}
+use Rattle.awaited.specs.Byte.{awaits, checks, numberOf, advanceOf}
 
 -- a run is a write
 abbrev pub writes : Chain → Bool

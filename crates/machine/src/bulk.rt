@@ -1,5 +1,5 @@
 // Data bytes taken as one block, large windows at the speed of a copy; and the five bytes before them at once.
-use crate::one_byte::passed;
+use awaited::passed;
 use cells::copy;
 use cells::differ;
 use cells::least;
@@ -50,8 +50,8 @@ pub fn bulk(c: Chain, mem: &mut [u8], at: usize, t: &[u8]) -> Chain
 {
     let p = c.place;
     let k = lay(mem, at, p.check, t);
-    let n = t.len();
-    let q = passed(counting(p, n as u32, k), n);
+    let n = t.len() as u32;
+    let q = passed(counting(p, n, k), n);
     let mut d = c;
     d.place = q;
     d

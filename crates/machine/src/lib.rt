@@ -1,13 +1,12 @@
 // The byte machine: a stream taken byte by byte or slice by slice into a chain, as a write or as a check.
 mod bulk;
-mod one_byte;
 mod run;
 
-use crate::one_byte::number;
 use crate::run::feed;
 use crate::run::finish;
 use crate::run::gone_on;
 use crate::run::over;
+use awaited::number;
 use chain::Chain;
 use chain::Made;
 use chain::closed_place;
@@ -17,8 +16,10 @@ use chain::state::open_number;
 use chain::state::state_number;
 ghost use mathlib.Core.Path.{_≡_};
 ghost use lib.Dec.{eqb};
-ghost use Rattle.chain.specs.Paper.{writing, checking};
+ghost use lib.ListN.{length};
+ghost use Rattle.chain.specs.Paper.{writing, checking, done};
 ghost use Rattle.chain.specs.Rules.{pick};
+ghost use Rattle.chain.specs.State.{feedNumber};
 ghost use Rattle.machine.specs.Calls.{Start, Slice, Byte, Drop, unfed, refuseOf, aheadOf};
 
 // The number, and the run's bytes taken and mismatches so far.
@@ -94,13 +95,22 @@ fn not_fed(c: Chain, n: u8) -> Fed
     Fed { chain: c, answer }
 }
 
+// Feeds a run that takes bytes. Called twice, this is a function of its own: what tests the state before it then tests the chain where it
+// was lent, and no copy of it is made for the test.
+fn taken(c: Chain, mem: &mut [u8], s: &[u8]) -> Fed
+    requires { ⌜ feedNumber c (length (now mem)) ≡ done ⌝ }
+    ensures { λ r. ⌜ Slice c (now (mem .entry)) (now (s .entry)) r (now (mem .exit)) ⌝ }
+{
+    finish(feed(c, mem, s))
+}
+
 // Feeds an open run and stops at its end; later bytes are not looked at.
 pub fn slice(c: Chain, mem: &mut [u8], s: &[u8]) -> Fed
     ensures { λ r. ⌜ Slice c (now (mem .entry)) (now (s .entry)) r (now (mem .exit)) ⌝ }
 {
     let n = feed_number(c, mem.len());
     if n == DONE {
-        return finish(feed(c, mem, s));
+        return taken(c, mem, s);
     }
     not_fed(c, n)
 }
@@ -125,12 +135,15 @@ pub fn drop(c: Chain, mem: &[u8]) -> Made
     }
 }
 
-// One byte: a slice of one, so that the step has one place where it is called.
+// One byte: a slice of one.
 pub fn byte(c: Chain, mem: &mut [u8], b: u8) -> Fed
     ensures { λ r. ⌜ Byte c (now (mem .entry)) b r (now (mem .exit)) ⌝ }
 {
-    let one = [b];
-    slice(c, mem, &one)
+    let n = feed_number(c, mem.len());
+    if n == DONE {
+        return taken(c, mem, &[b]);
+    }
+    not_fed(c, n)
 }
 
 // For calls above the machine: ends an open run with a number of theirs. Its last byte counts as taken; no cell and no register changes.

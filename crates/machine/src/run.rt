@@ -5,8 +5,8 @@ use crate::bulk::bulk;
 use crate::bulk::counting;
 use crate::bulk::headed;
 use crate::bulk::span;
-use crate::one_byte::advance;
-use crate::one_byte::number;
+use awaited::advance;
+use awaited::number;
 use cells::unlike;
 use chain::Chain;
 use chain::Made;
@@ -17,9 +17,11 @@ use chain::kinds::size_here;
 use chain::paper::*;
 use chain::window::fits;
 use chain::window::pair;
+use chain::window::width;
 ghost use mathlib.Core.Path.{_≡_};
 ghost use mathlib.Core.List.{[]};
 ghost use Prim.Native.Nat.{_≤_, _<_};
+ghost use Rattle.chain.specs.Kinds.{baseOf, sizeHere};
 ghost use Rattle.chain.specs.Paper.{more};
 ghost use Rattle.machine.specs.Run.{addressOf, memoryOf, registersOf, missedOf, ended, goneOn, run, stepOf, runOf};
 ghost use Rattle.machine.specs.Calls.{fedOf};
@@ -139,76 +141,133 @@ fn step(c: Chain, mem: &mut [u8], b: u8) -> Made
     }
 }
 
-// Blocks from the front of a slice, as many as there are: data bytes as one block where it lies inside memory, as it does in every
-// sound state, and the five bytes before them at once where the window fits. The step is not in this loop, so that the run's
-// device, its size and where its memory begins are the same all through it.
-fn blocks(c: Chain, mem: &mut [u8], s: &[u8]) -> Front
+// The next data bytes of a window as one block, where it lies inside memory, as it does in every sound state.
+fn rest(c: Chain, mem: &mut [u8], base: usize, s: &[u8]) -> Front
+    requires { ⌜ (base ≡ baseOf (c .kinds) (c .place .device)) × (base ≤ 524280) ⌝ }
     ensures { λ r. ⌜ r .used ≤ length (now (s .entry)) ⌝ }
     ensures { λ r. ⌜ runOf (run c (now (mem .entry)) more) (now (s .entry)) ≡ runOf (run (r .chain) (now (mem .exit)) more) (drop (r .used) (now (s .entry))) ⌝ }
+    ensures { λ r. ⌜ (r .chain .kinds ≡ c .kinds) × (r .chain .place .device ≡ c .place .device) ⌝ }
 {
-    let a = c.place.awaited;
-    if (a != AT_NULL) & (a != AT_DATA) {
+    if c.place.awaited == AT_DATA {
+        let p = c.place;
+        let at = base + p.next as usize;
+        let k = span(p, at, mem.len(), s.len());
+        if 0 < k {
+            let d = bulk(c, mem, at, &s[..k]);
+            return Front { chain: d, used: k };
+        }
         return Front { chain: c, used: 0 };
     }
-    let ks = c.kinds;
-    let device = c.place.device;
-    let size = size_here(c);
-    let base = base_of(ks, device);
+    Front { chain: c, used: 0 }
+}
+
+// Whole windows, one a turn, as many as there are. Of the state the loop keeps only what windows change, so that it stays in registers.
+fn windows(c: Chain, mem: &mut [u8], base: usize, size: u16, s: &[u8]) -> Front
+    requires { ⌜ (base ≡ baseOf (c .kinds) (c .place .device)) × (base ≤ 524280) × (size ≡ sizeHere c) ⌝ }
+    ensures { λ r. ⌜ r .used ≤ length (now (s .entry)) ⌝ }
+    ensures { λ r. ⌜ runOf (run c (now (mem .entry)) more) (now (s .entry)) ≡ runOf (run (r .chain) (now (mem .exit)) more) (drop (r .used) (now (s .entry))) ⌝ }
+    ensures { λ r. ⌜ (r .chain .kinds ≡ c .kinds) × (r .chain .place .device ≡ c .place .device) ⌝ }
+{
     let n = s.len();
     let mut d = c;
     let mut i: usize = 0;
+    // in every sound state the device's cells are in memory
+    if mem.len() < base + size as usize {
+        return Front { chain: c, used: 0 };
+    }
     while i < n {
-        if d.place.awaited == AT_DATA {
-            let p = d.place;
-            let at = base + p.next as usize;
-            let k = span(p, at, mem.len(), n - i);
-            if 0 < k {
-                let e = i + k;
-                let f = bulk(d, mem, at, &s[i..e]);
-                d = f;
-                i = e;
-                continue;
-            }
-            return Front { chain: d, used: i };
-        }
         if d.place.awaited != AT_NULL {
             return Front { chain: d, used: i };
         }
         if n - i < 5 {
             return Front { chain: d, used: i };
         }
-        let e = i + 5;
         let start = pair(s[i + 1], s[i + 2]);
         let end = pair(s[i + 3], s[i + 4]);
-        if fits(size, start, end) {
-            let f = headed(d, start, end);
-            d = f;
-            i = e;
-            continue;
+        if !fits(size, start, end) {
+            return Front { chain: d, used: i };
         }
-        return Front { chain: d, used: i };
+        let f = i + 5;
+        let w = width(start, end);
+        if n - f < w {
+            return Front { chain: d, used: i };
+        }
+        let e = f + w;
+        let h = headed(d, start, end);
+        let g = bulk(h, mem, base + start as usize, &s[f..e]);
+        d = g;
+        i = e;
     }
     Front { chain: d, used: i }
 }
 
-// Bytes of an open run, up to its end: blocks, and between them byte by byte. The step is called here alone, so that it is compiled
-// into the loop.
+// A window that the slice cuts: its null byte, start and end at once, and the data bytes that there are.
+fn cut(c: Chain, mem: &mut [u8], base: usize, size: u16, s: &[u8]) -> Front
+    requires { ⌜ (base ≡ baseOf (c .kinds) (c .place .device)) × (base ≤ 524280) × (size ≡ sizeHere c) ⌝ }
+    ensures { λ r. ⌜ r .used ≤ length (now (s .entry)) ⌝ }
+    ensures { λ r. ⌜ runOf (run c (now (mem .entry)) more) (now (s .entry)) ≡ runOf (run (r .chain) (now (mem .exit)) more) (drop (r .used) (now (s .entry))) ⌝ }
+{
+    if c.place.awaited != AT_NULL {
+        return Front { chain: c, used: 0 };
+    }
+    if s.len() < 5 {
+        return Front { chain: c, used: 0 };
+    }
+    let start = pair(s[1], s[2]);
+    let end = pair(s[3], s[4]);
+    if fits(size, start, end) {
+        let h = headed(c, start, end);
+        let f = rest(h, mem, base, &s[5..]);
+        let d = f.chain;
+        let used = 5 + f.used;
+        return Front { chain: d, used };
+    }
+    Front { chain: c, used: 0 }
+}
+
+// Blocks from the front of a slice: what is left of an open window, whole windows, and of one that the slice cuts what there is. The step
+// is not in here, so that the run's device, its size and where its memory begins are found once.
+fn blocks(c: Chain, mem: &mut [u8], s: &[u8]) -> Front
+    ensures { λ r. ⌜ r .used ≤ length (now (s .entry)) ⌝ }
+    ensures { λ r. ⌜ runOf (run c (now (mem .entry)) more) (now (s .entry)) ≡ runOf (run (r .chain) (now (mem .exit)) more) (drop (r .used) (now (s .entry))) ⌝ }
+{
+    let ks = c.kinds;
+    let size = size_here(c);
+    let base = base_of(ks, c.place.device);
+    let f = rest(c, mem, base, s);
+    let i = f.used;
+    let g = windows(f.chain, mem, base, size, &s[i..]);
+    let j = i + g.used;
+    let h = cut(g.chain, mem, base, size, &s[j..]);
+    let d = h.chain;
+    let used = j + h.used;
+    Front { chain: d, used }
+}
+
+// Whether blocks are looked for in n bytes: not in one, which the step takes sooner, and only before or inside a window.
+fn bulky(c: Chain, n: usize) -> bool {
+    if n < 2 {
+        return false;
+    }
+    let a = c.place.awaited;
+    (a == AT_NULL) | (a == AT_DATA)
+}
+
+// Bytes of an open run, up to its end: blocks, and between them byte by byte. The step is called once here, so that it is compiled into
+// the loop; `blocks` is called twice, so that it is not, and with a copy, so that the chain itself stays in the processor's registers.
 pub fn feed(c: Chain, mem: &mut [u8], s: &[u8]) -> Made
     ensures { λ r. ⌜ runOf (run c (now (mem .entry)) more) (now (s .entry)) ≡ run (r .chain) (now (mem .exit)) (r .number) ⌝ }
 {
     let n = s.len();
     let mut d = c;
     let mut i: usize = 0;
-    while i < n {
-        let f = blocks(d, mem, &s[i..]);
+    if bulky(c, n) {
+        let lent = c;
+        let f = blocks(lent, mem, s);
         d = f.chain;
-        i += f.used;
-        if n <= i {
-            return Made {
-                chain: d,
-                number: MORE,
-            };
-        }
+        i = f.used;
+    }
+    while i < n {
         let b = s[i];
         i += 1;
         let r = step(d, mem, b);
@@ -216,6 +275,12 @@ pub fn feed(c: Chain, mem: &mut [u8], s: &[u8]) -> Made
             return r;
         }
         d = r.chain;
+        if bulky(d, n - i) {
+            let lent = d;
+            let f = blocks(lent, mem, &s[i..]);
+            d = f.chain;
+            i += f.used;
+        }
     }
     Made {
         chain: d,

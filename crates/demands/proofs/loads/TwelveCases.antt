@@ -2,7 +2,7 @@
 use Rattle.chain.specs.Kinds.{sizeOf, baseOf, knownOf}
 use Rattle.chain.specs.State.{badChain, unusedZero, wellFormed, illFormed, stateNumber, feedNumber}
 use Rattle.chain.specs.Calls.{firstOnly, chainNumber, newOf, resetOf, resetMemory}
-use Rattle.machine.specs.Byte.{numberOf, passedOf, advanceOf}
+use Rattle.awaited.specs.Byte.{numberOf, passedOf, advanceOf}
 use Rattle.machine.specs.Run.{addressOf, memoryOf, registersOf, missedOf, stepOf, runOf}
 use Rattle.machine.specs.Calls.{startNumber, startOf, fedOf, sliceOf, sliceMemory}
 use Rattle.closing.specs.Closing.{closingBytes}

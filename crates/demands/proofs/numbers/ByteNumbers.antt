@@ -12,7 +12,7 @@ use Rattle.chain.specs.Paper.{at·second, at·control, at·start-low, at·end-l
 use Rattle.chain.specs.Table.{NoneOf, Running}
 use Rattle.chain.proofs.Table.{has, before, Condition, none-of, row-of, feed-takes}
 use Rattle.chain.proofs.Sound.{feed-sound}
-use Rattle.machine.specs.Byte.{nextDevice, numberOf}
+use Rattle.awaited.specs.Byte.{nextDevice, numberOf}
 use Rattle.grammar.proofs.runs.Slices.{slice-number}
 use Rattle.demands.specs.ByteTable.{Awaits, Begins, BeginsWith, Five, Six, Seven, Eight, Nine, Ten, ownTable, sliceNumber, ByteNumbers}
 use Rattle.demands.proofs.numbers.ByteTables.{own-table, run-one}

@@ -19,7 +19,7 @@ use Rattle.chain.proofs.Means.{Means, m-map, reads}
 use Rattle.chain.proofs.Numbers.{feed-gives, feed-passes}
 use Rattle.chain.proofs.Table.{Same, table, feed-same, table-reads}
 use Rattle.machine.specs.declared.Fed.{Fed}
-use Rattle.machine.specs.Byte.{awaits, nextDevice, begins, registerBegun, byteRules, numberOf}
+use Rattle.awaited.specs.Byte.{awaits, nextDevice, begins, registerBegun, byteRules, numberOf}
 use Rattle.machine.specs.Run.{run, runOf}
 use Rattle.machine.specs.Calls.{sliceOf}
 use Rattle.machine.proofs.Runs.{step-number}

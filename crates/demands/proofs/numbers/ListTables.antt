@@ -18,7 +18,7 @@ use Rattle.chain.specs.State.{badChain, unusedZero, illFormed, feedNumber, stat
 use Rattle.chain.specs.Calls.{firstOnly, freshChain, chainNumber, newOf}
 use Rattle.chain.proofs.Sizes.{size-most}
 use Rattle.chain.proofs.ByCases.{by-test, either-way}
-use Rattle.machine.specs.Byte.{byteRules, numberOf}
+use Rattle.awaited.specs.Byte.{byteRules, numberOf}
 use Rattle.machine.specs.Run.{Run, run, stepOf, runOf}
 use Rattle.grammar.proofs.runs.Started.{opened-feeds}
 use Rattle.machine.specs.Calls.{openedPlace, startNumber, startOf, fedOf, sliceOf}

@@ -17,7 +17,7 @@ use Rattle.chain.specs.Table.{Running}
 use Rattle.chain.proofs.Output.{nothing-written}
 use Rattle.chain.proofs.Table.{feed-takes}
 use Rattle.machine.specs.declared.Fed.{Fed}
-use Rattle.machine.specs.Byte.{numberOf}
+use Rattle.awaited.specs.Byte.{numberOf}
 use Rattle.machine.specs.Run.{Run, run, ended, runOf}
 use Rattle.machine.specs.Calls.{startNumber, startOf, fedOf, sliceOf, sliceMemory, dropOf}
 use Rattle.machine.proofs.Feed.{run-append, run-over}

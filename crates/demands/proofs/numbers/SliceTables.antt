@@ -19,7 +19,7 @@ use Rattle.chain.proofs.Means.{Means}
 use Rattle.chain.proofs.Numbers.{feed-gives, feed-passes}
 use Rattle.chain.proofs.Table.{Same, row, end, Alike, like, same, same-alike, table, else-of, feed-same}
 use Rattle.machine.specs.declared.Fed.{Fed}
-use Rattle.machine.specs.Byte.{byteRules, numberOf}
+use Rattle.awaited.specs.Byte.{byteRules, numberOf}
 use Rattle.machine.specs.Run.{Run, run, runOf}
 use Rattle.machine.specs.Calls.{fedOf, sliceOf}
 use Rattle.machine.proofs.Feed.{run-append, run-over}

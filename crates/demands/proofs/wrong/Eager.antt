@@ -11,7 +11,7 @@ use lib.Seq.{sets}
 use Rattle.chain.specs.declared.Chain.{Chain}
 use Rattle.chain.specs.Kinds.{sizeOf, baseOf, knownOf}
 use Rattle.chain.specs.State.{badChain, unusedZero, wellFormed, illFormed, stateNumber, feedNumber}
-use Rattle.machine.specs.Byte.{numberOf, passedOf, advanceOf}
+use Rattle.awaited.specs.Byte.{numberOf, passedOf, advanceOf}
 use Rattle.machine.specs.Run.{addressOf, memoryOf, registersOf, missedOf, stepOf, runOf}
 use Rattle.machine.specs.Calls.{startNumber, startOf, fedOf, sliceOf, sliceMemory}
 use Rattle.grammar.specs.Sent.{memory, lastTo}

@@ -9,7 +9,7 @@ use borrow.Author.Tests.{eqb-true, ne-eqb}
 use Rattle.chain.proofs.ByCases.{by-test}
 use Rattle.chain.specs.declared.Chain.{Chain}
 use Rattle.chain.specs.Paper.{closed, more}
-use Rattle.machine.specs.Byte.{numberOf}
+use Rattle.awaited.specs.Byte.{numberOf}
 use Rattle.machine.specs.Run.{missedOf, stepOf}
 use Rattle.machine.specs.Calls.{fedOf, refuseOf, aheadOf}
 

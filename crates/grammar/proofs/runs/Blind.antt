@@ -11,7 +11,7 @@ use Rattle.chain.specs.Paper.{no-windows, at·null, at·check, more}
 use Rattle.chain.specs.Rules.{Row, _⇒_, rowOf, pick}
 use Rattle.chain.specs.Set.{with·awaited, with·left, with·mismatches, with·place}
 use Rattle.chain.proofs.ByCases.{by-test}
-use Rattle.machine.specs.Byte.{passedOf, advanceRows, advanceOf, numberOf}
+use Rattle.awaited.specs.Byte.{passedOf, advanceRows, advanceOf, numberOf}
 use Rattle.machine.specs.Run.{registersOf, missedOf, counted, Run, run, wentOn, stepOf, onByte, runOf}
 
 -- the same chain with j mismatches

@@ -15,7 +15,7 @@ use Rattle.chain.specs.Bytes.{Bytes}
 use Rattle.chain.proofs.ByCases.{by-test}
 use Rattle.chain.proofs.WellFormed.{formed-of, of-formed}
 use Rattle.chain.proofs.Sound.{Sound, feed-sound, sound-feed, feed-closed}
-use Rattle.machine.specs.Byte.{numberOf}
+use Rattle.awaited.specs.Byte.{numberOf}
 use Rattle.machine.specs.Run.{missedOf, registersOf, counted, Run, run, wentOn, runOf}
 use Rattle.machine.proofs.Runs.{After, run-by, memory-length, registers-length}
 use Rattle.grammar.proofs.runs.Stays.{went-stays}

@@ -7,7 +7,7 @@ use lib.Dec.{eqb}
 use Rattle.chain.specs.declared.Chain.{Chain}
 use Rattle.chain.specs.Paper.{checking, more}
 use Rattle.chain.proofs.ByCases.{by-test}
-use Rattle.machine.specs.Byte.{numberOf}
+use Rattle.awaited.specs.Byte.{numberOf}
 use Rattle.machine.specs.Run.{writes, memoryOf, registersOf, missedOf, counted, loads, Run, stepOf, runOf}
 use Rattle.machine.proofs.Frame.{advance-frame}
 use Rattle.machine.proofs.Runs.{run-keeps}

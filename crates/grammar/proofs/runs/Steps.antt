@@ -21,7 +21,7 @@ use Rattle.chain.specs.Kinds.{sizeAt}
 use Rattle.chain.specs.WellFormed.{Sets, placeRegister, WellFormed}
 use Rattle.chain.proofs.WellFormed.{formed-of, before-windows}
 use Rattle.chain.specs.Window.{withLow}
-use Rattle.machine.specs.Byte.{awaits, checks, begins, registerBegun, byteRules, numberOf, passedOf, advanceOf}
+use Rattle.awaited.specs.Byte.{awaits, checks, begins, registerBegun, byteRules, numberOf, passedOf, advanceOf}
 use Rattle.machine.specs.Run.{registersOf}
 
 -- where a byte leaves the run open no rule of the byte applies

@@ -1,20 +1,9 @@
 use mathlib.Core.Path.{_∙_}
 use Rattle.chain.proofs.Tests.{tests}
-use Rattle.machine.specs.Calls.{fedOf, sliceOf, sliceMemory}
+use Rattle.machine.specs.Calls.{sliceOf, sliceMemory}
 use borrow.Author.Needs.{needs}
 use Rattle.machine.proofs.slice.Statement.{statement}
 use Rattle.machine.proofs.slice.Tie as tie
-
-returns : tie.Need-returns
-unfolding fedOf sliceOf sliceMemory
-returns c =
-    let d = c .before .before .before in
-    let if1 = d .before .before in
-    let n = if1 .before .feed-number .ensures in
-    record {
-      fed = c .finish .ensures ∙ simp (← n, if1 .if1 .taken, d .feed .ensures);
-      memory = simp (← n, if1 .if1 .taken, d .feed .ensures);
-    }
 
 returns-2 : tie.Need-returns-2
 unfolding sliceOf sliceMemory
@@ -22,5 +11,5 @@ returns-2 c = record { fed = (c .not-fed .ensures) ∙ simp (← (c .before .bef
 
 pub slice-spec : {M : Type 1} → statement M
 slice-spec =
-    tie.close (tie.spec (λ c κs. search needs) (λ c κs. search needs) (λ c κs. search needs)
-    (λ c. search needs) returns (λ c κs. search needs) returns-2)
+    tie.close (tie.spec (λ c κs. search needs) (λ c κs. search needs) (λ c. search needs)
+    (λ c. search needs) (λ c κs. search needs) returns-2)
