@@ -1,7 +1,7 @@
 # make demo   lists a sample stream, then runs a controller's main loop in C: stop, close, start afresh; save, drop, pick up
 # make test   every proof, must-fail edit and program from nothing; then what the documents cite, header, C example, comparison with the model, stack, listing program: the last line is rt's own
 # make lib    the archive for C: target/staticlib/libat6000.a
-# make bench  the archive against safe Rust and memcpy (docs/SPEED.md)
+# make bench  the archive against safe Rust and memcpy, and its instructions counted job by job (docs/SPEED.md)
 # make fmt    lay out the Rattle sources
 .PHONY: demo test lib bench fmt
 
@@ -21,6 +21,7 @@ lib:
 
 bench: lib
 	sh bench/run.sh $(archive)
+	sh bench/count/run.sh $(archive)
 
 fmt:
 	rt fmt
