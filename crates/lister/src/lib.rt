@@ -6,15 +6,16 @@ use crate::stream::HEAD_LENGTH;
 use crate::stream::Stop;
 use crate::stream::preamble_at;
 use crate::stream::read_stream;
-use crate::window::whole_window;
+use crate::window::ReadWindow;
 use chain::kinds::size_of;
 use chain::paper::*;
+use chain::window::pair;
 ghost use mathlib.Core.Path.{_≡_};
 ghost use Prim.Native.Nat.{_+_, _^_, _≤_, _<_};
 ghost use lib.ListN.{length};
 ghost use lib.Seq.{sets};
 ghost use Rattle.chain.specs.Paper.{done};
-ghost use Rattle.lister.specs.Windows.{windowsStop, windowsOf};
+ghost use Rattle.lister.specs.Windows.{startAt, endAt, firstAt, nextAt, windowsStop, windowsOf};
 ghost use Rattle.lister.specs.Listing.{head-length, listStop, listedOf, startsOf, endsOf, offsetsOf, Lists};
 
 // All but the number and the bytes taken are 0 unless the number is 0.
@@ -81,6 +82,24 @@ fn answer(s: &[u8], p: usize, e: Stop) -> Listed
         control: s[p + 1],
         address,
         taken,
+    }
+}
+
+// A window that is known to be whole: nothing is tested. The bounds are widened before they are subtracted, which leaves nothing to cut
+// after it: where the next window stands waits for this.
+fn whole_window(s: &[u8], at: usize) -> ReadWindow
+    requires { ⌜ (startAt (now s) at ≤ endAt (now s) at) × (nextAt (now s) at ≤ length (now s)) ⌝ }
+    ensures { λ r. ⌜ r ≡ record { number = done; start = startAt (now (s .entry)) at; end = endAt (now (s .entry)) at; first = firstAt at; next = nextAt (now (s .entry)) at } ⌝ }
+{
+    let start = pair(s[at + 1], s[at + 2]);
+    let end = pair(s[at + 3], s[at + 4]);
+    let first = at + 5;
+    ReadWindow {
+        number: DONE,
+        start,
+        end,
+        first,
+        next: first + (end as usize - start as usize + 1),
     }
 }
 

@@ -3,10 +3,8 @@ use chain::paper::*;
 use chain::window::pair;
 use chain::window::width;
 ghost use mathlib.Core.Path.{_≡_};
-ghost use Prim.Native.Nat.{_-_, _≤_};
-ghost use lib.ListN.{length};
-ghost use Rattle.chain.specs.Paper.{done};
-ghost use Rattle.lister.specs.Windows.{startAt, endAt, firstAt, nextAt, readWindowOf};
+ghost use Prim.Native.Nat.{_-_};
+ghost use Rattle.lister.specs.Windows.{readWindowOf};
 
 // The window's bounds, the position of its first data byte, and the position after its last. Where the number is not 0
 // the first three are 0, and next is the position after the refused byte, or the length of a stream that is used up.
@@ -68,23 +66,5 @@ pub fn read_window(size: u16, s: &[u8], at: usize) -> ReadWindow
         end,
         first,
         next: first + cells,
-    }
-}
-
-// A window that is known to be whole: nothing is tested. The bounds are widened before they are subtracted, which leaves nothing to cut
-// after it: where the next window stands waits for this.
-pub(crate) fn whole_window(s: &[u8], at: usize) -> ReadWindow
-    requires { ⌜ (startAt (now s) at ≤ endAt (now s) at) × (nextAt (now s) at ≤ length (now s)) ⌝ }
-    ensures { λ r. ⌜ r ≡ record { number = done; start = startAt (now (s .entry)) at; end = endAt (now (s .entry)) at; first = firstAt at; next = nextAt (now (s .entry)) at } ⌝ }
-{
-    let start = pair(s[at + 1], s[at + 2]);
-    let end = pair(s[at + 3], s[at + 4]);
-    let first = at + 5;
-    ReadWindow {
-        number: DONE,
-        start,
-        end,
-        first,
-        next: first + (end as usize - start as usize + 1),
     }
 }

@@ -1,6 +1,6 @@
 use borrow.Author.Needs.{needs}
-use Rattle.lister.proofs.window.whole_window.Statement.{statement}
-use Rattle.lister.proofs.window.whole_window.Tie as tie
+use Rattle.lister.proofs.whole_window.Statement.{statement}
+use Rattle.lister.proofs.whole_window.Tie as tie
 
 ordered : tie.Need-sub-t14
 ordered c = rw (c .before .before .before .pair .ensures, c .pair2 .ensures) (c .before .before .before .before .before .before .before .pre .0)
