@@ -19,8 +19,9 @@ held p count unused =
     ∷ (eqb (p .check) writing implies eqb (p .mismatches) 0)
     ∷ [])
 
-abbrev pub noWindow : Place → Bool
-noWindow p = eqb (p .left) 0 && eqb (p .start) 0 && eqb (p .end) 0 && eqb (p .next) 0
+-- no window is open and none is left
+abbrev pub noneOpen : Place → Bool
+noneOpen p = eqb (p .left) 0 && eqb (p .start) 0 && eqb (p .end) 0 && eqb (p .next) 0
 
 -- a control byte that was taken: stored in a write, in a check with B3 clear
 abbrev pub stored : Place → ℕ → Bool
@@ -31,16 +32,16 @@ checkable p = eqb (p .check) checking implies not (B3 (p .control))
 
 -- each row, where h holds whatever byte is awaited
 abbrev pub atPreamble : Place → Bool → Bool
-atPreamble p h = allOf (h ∷ eqb (p .device) 0 ∷ eqb (p .control) 0 ∷ noWindow p ∷ [])
+atPreamble p h = allOf (h ∷ eqb (p .device) 0 ∷ eqb (p .control) 0 ∷ noneOpen p ∷ [])
 
 abbrev pub atSecond : Place → Bool → Bool
-atSecond p h = allOf (h ∷ eqb (p .device) 0 ∷ eqb (p .mode) two-preambles ∷ eqb (p .control) 0 ∷ noWindow p ∷ [])
+atSecond p h = allOf (h ∷ eqb (p .device) 0 ∷ eqb (p .mode) two-preambles ∷ eqb (p .control) 0 ∷ noneOpen p ∷ [])
 
 abbrev pub atControl : Place → Bool → ℕ → Bool
-atControl p h g = allOf (h ∷ eqb (p .control) 0 ∷ noWindow p ∷ not (B4 g) ∷ (eqb (p .check) checking implies not (B3 g)) ∷ [])
+atControl p h g = allOf (h ∷ eqb (p .control) 0 ∷ noneOpen p ∷ not (B4 g) ∷ (eqb (p .check) checking implies not (B3 g)) ∷ [])
 
 abbrev pub outside : Place → Bool → ℕ → Bool
-outside p h g = allOf (h ∷ stored p g ∷ checkable p ∷ noWindow p ∷ [])
+outside p h g = allOf (h ∷ stored p g ∷ checkable p ∷ noneOpen p ∷ [])
 
 abbrev pub inside : Place → Bool → ℕ → Bool → Bool
 inside p h g bounds = allOf (h ∷ stored p g ∷ checkable p ∷ leb 1 (p .left) ∷ bounds ∷ [])

@@ -6,7 +6,7 @@ use crate::eight::unused_zero;
 use crate::kinds::size_of;
 use crate::paper::*;
 ghost use mathlib.Core.Path.{_≡_};
-ghost use Rattle.chain.specs.ByRow.{held, noWindow, atPreamble, atSecond, atControl, outside, inside, noBounds, halfStart, startAlone, halfEnd, bothBounds, byRow};
+ghost use Rattle.chain.specs.ByRow.{held, noneOpen, atPreamble, atSecond, atControl, outside, inside, noBounds, halfStart, startAlone, halfEnd, bothBounds, byRow};
 ghost use Rattle.chain.specs.State.{badChain, unusedZero, wellFormed, illFormed, stateNumber, openNumber, feedNumber};
 
 // Number 1. A size is looked up once: an unknown kind has none.
@@ -41,8 +41,8 @@ fn is_held(p: Place, count: u8, unused: bool) -> bool
         & (!(p.check == WRITING) | (p.mismatches == 0))
 }
 
-fn no_window(p: Place) -> bool
-    ensures { λ r. ⌜ r ≡ noWindow p ⌝ }
+fn none_open(p: Place) -> bool
+    ensures { λ r. ⌜ r ≡ noneOpen p ⌝ }
 {
     (p.left == 0) & (p.start == 0) & (p.end == 0) & (p.next == 0)
 }
@@ -50,13 +50,13 @@ fn no_window(p: Place) -> bool
 fn at_preamble(p: Place, h: bool) -> bool
     ensures { λ r. ⌜ r ≡ atPreamble p h ⌝ }
 {
-    h & (p.device == 0) & (p.control == 0) & no_window(p)
+    h & (p.device == 0) & (p.control == 0) & none_open(p)
 }
 
 fn at_second(p: Place, h: bool) -> bool
     ensures { λ r. ⌜ r ≡ atSecond p h ⌝ }
 {
-    h & (p.device == 0) & (p.mode == TWO_PREAMBLES) & (p.control == 0) & no_window(p)
+    h & (p.device == 0) & (p.mode == TWO_PREAMBLES) & (p.control == 0) & none_open(p)
 }
 
 fn at_control(p: Place, h: bool, g: u8) -> bool
@@ -64,7 +64,7 @@ fn at_control(p: Place, h: bool, g: u8) -> bool
 {
     h
         & (p.control == 0)
-        & no_window(p)
+        & none_open(p)
         & !(g / BIT_4 % 2 == 1)
         & (!(p.check == CHECKING) | !(g / BIT_3 % 2 == 1))
 }
@@ -76,7 +76,7 @@ fn outside_windows(p: Place, h: bool, g: u8) -> bool
     h
         & (!(p.check == WRITING) | (p.control == g))
         & (!(p.check == CHECKING) | !(p.control / BIT_3 % 2 == 1))
-        & no_window(p)
+        & none_open(p)
 }
 
 // A window is open, whose bounds are as they have to be here.

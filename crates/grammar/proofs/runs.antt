@@ -1,3 +1,4 @@
+-- Runs: what a byte and a run of them keep, whatever the grammar; slices put together; what calls above the machine stand on.
 pub mod Kept
 pub mod Blind
 pub mod Stays

@@ -147,39 +147,39 @@ module _ (size mode : ℕ) (x : Section) (rest : List ℕ) (f : SectionFits size
   body-long : length body ≡ length (windowsBytes (x .windows)) + suc (length rest)
   body-long = length-append (windowsBytes (x .windows)) (postamble ∷ rest)
 
-  stood-two : eqb mode two-preambles ≡ true → Stood size mode 1 (leadBytes true ++ sectionBytes x rest) x
-  unfolding headStop preambleAt
-  stood-two e =
-      let pre : List ℕ = preamble ∷ preamble ∷ x .control ∷ x .address0 ∷ x .address1 ∷ x .address2 ∷ (no-windows - length (x .windows)) ∷ [] in
+  -- whatever stands before the preamble, where the lister passes the head
+  stood : (front : List ℕ) → headStop mode (front ++ (preamble ∷ sectionBytes x rest)) ≡ stop done (length front + 6)
+      → Stood size mode (length front) (front ++ (preamble ∷ sectionBytes x rest)) x
+  stood front h =
+      let p = length front in
+      let ws = x .windows in
+      let s : List ℕ = front ++ (preamble ∷ sectionBytes x rest) in
+      let head : List ℕ = preamble ∷ x .control ∷ x .address0 ∷ x .address1 ∷ x .address2 ∷ (no-windows - length ws) ∷ [] in
+      let at : (k : ℕ) → getD s (p + k) 0 ≡ getD (head ++ body) k 0 = λ k. getD-append-add front (head ++ body) k 0 in
+      let e : (front ++ head) ++ body ≡ s = append-assoc front head body in
+      let n : length (front ++ head) ≡ p + 6 = length-append front head in
       let l = body-long in
+      let m : length s ≡ p + length (head ++ body) = length-append front (head ++ body) in
+      let w = through size ws (front ++ head) (postamble ∷ rest) p (omega arith) (f .fit) in
       record {
-        head = rw (e, le-ltb (length (pre ++ body)) 7 (omega arith)) (simp and-false);
-        control = refl;
-        address0 = refl;
-        address1 = refl;
-        address2 = refl;
-        count = complement (length (x .windows)) (f .few);
-        windows = through size (x .windows) pre (postamble ∷ rest) 1 (omega arith) (f .fit);
-        check = body-check pre;
+        head = h;
+        control = at 1;
+        address0 = at 2;
+        address1 = at 3;
+        address2 = at 4;
+        count = ap (λ (k : ℕ). 255 - k) (at 5) ∙ complement (length ws) (f .few);
+        windows = subst (λ (k : ℕ). Through size s ws p k) n (subst (λ (t : List ℕ). Through size t ws p (length (front ++ head))) e w);
+        check = rw (e, n) at (body-check (front ++ head));
         long = omega arith;
       }
 
+  stood-two : eqb mode two-preambles ≡ true → Stood size mode 1 (leadBytes true ++ sectionBytes x rest) x
+  unfolding headStop preambleAt
+  stood-two e = let l = body-long in stood (preamble ∷ []) (rw (e, le-ltb (length (leadBytes true ++ sectionBytes x rest)) 7 (omega arith)) (simp and-false))
+
   stood-one : eqb mode two-preambles ≡ false → Stood size mode 0 (leadBytes false ++ sectionBytes x rest) x
   unfolding headStop preambleAt
-  stood-one e =
-      let pre : List ℕ = preamble ∷ x .control ∷ x .address0 ∷ x .address1 ∷ x .address2 ∷ (no-windows - length (x .windows)) ∷ [] in
-      let l = body-long in
-      record {
-        head = rw (e, le-ltb (length (pre ++ body)) 6 (omega arith)) (simp and-false);
-        control = refl;
-        address0 = refl;
-        address1 = refl;
-        address2 = refl;
-        count = complement (length (x .windows)) (f .few);
-        windows = through size (x .windows) pre (postamble ∷ rest) 0 (omega arith) (f .fit);
-        check = body-check pre;
-        long = omega arith;
-      }
+  stood-one e = let l = body-long in stood [] (rw (e, le-ltb (length (leadBytes false ++ sectionBytes x rest)) 6 (omega arith)) (simp and-false))
 
 -- ---- the listing
 
