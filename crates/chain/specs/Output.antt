@@ -12,9 +12,13 @@ use Rattle.chain.specs.Rules.{pick}
 abbrev pub over : List ℕ → List ℕ → List ℕ
 over bytes out = bytes ++ drop (length bytes) out
 
--- how many bytes were written: all of them on 0, else none
+-- a figure that is answered on 0, and is 0 on a refusal
+abbrev pub onDone : ℕ → ℕ → ℕ
+onDone n figure = pick (eqb n done) figure 0
+
+-- how many bytes were written
 abbrev pub lengthOf : ℕ → List ℕ → ℕ
-lengthOf n bytes = pick (eqb n done) (length bytes) 0
+lengthOf n bytes = onDone n (length bytes)
 
 abbrev pub writtenOf : ℕ → List ℕ → Written
 writtenOf n bytes = record { number = n; length = lengthOf n bytes }

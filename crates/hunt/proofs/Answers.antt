@@ -1,12 +1,12 @@
 -- The hunt's three ways to answer: no position, an output too short, the bytes written. Assumes nothing.
-use mathlib.Core.Path.{_≡_, sym, ap, ap₂, _∙_}
+use mathlib.Core.Path.{_≡_, refl, sym, ap, ap₂, _∙_}
 use mathlib.Core.List.{List}
 use Prim.Native.Nat.{ℕ, _+_, _-_, _*_, _/_, _<_, _≤_}
 use native.Mathlib.Omega.{arith}
 use borrow.Author.Tests.{eq-eqb, ne-eqb, lt-ltb, le-ltb}
 use lib.Dec.{ltb}
-use lib.ListN.{length}
-use lib.Seq.{sets}
+use lib.ListN.{length, take, drop}
+use lib.Seq.{sets, take-at}
 use Rattle.cells.proofs.Over.{sets-front}
 use Rattle.chain.specs.Paper.{done, no-preamble, too-short}
 use Rattle.chain.specs.Rules.{pick}
@@ -33,11 +33,19 @@ module _ (s out : List ℕ) where
   unfolding huntNumber
   number-found h = rw (ne-eqb (foundAt s) nowhere (λ e. omega arith))
 
-  pub written : foundAt s < nowhere → length (huntedBytes s) ≤ length out
+  pub number-done : foundAt s < nowhere → length (huntedBytes s) ≤ length out → huntNumber s (length out) ≡ done
+  number-done h l = number-found h ∙ rw (le-ltb (length out) (length (huntedBytes s)) l)
+
+  -- what stands in the front part that it says it wrote
+  pub done-front : huntNumber s (length out) ≡ done → take (huntOf s (length out) .length) (huntOut s out) ≡ huntedBytes s
+  unfolding huntOf huntOut
+  done-front n = rw n (take-at (huntedBytes s) (drop (length (huntedBytes s)) out) (length (huntedBytes s)) refl)
+
+  written : foundAt s < nowhere → length (huntedBytes s) ≤ length out
       → Hunt s out (record { number = done; length = length (huntedBytes s) }) (over (huntedBytes s) out)
   unfolding huntOf huntOut
   written h l =
-      let n : huntNumber s (length out) ≡ done = number-found h ∙ rw (le-ltb (length out) (length (huntedBytes s)) l) in
+      let n = number-done h l in
       record { answer = rw n; output = rw n }
 
 -- what the code answers and leaves, from its own position and count

@@ -1,14 +1,14 @@
 -- A stream as modes 3 and 4 have it, 00 B2 and any bytes: found at 8, and hunted out from the preamble on. Assumes nothing.
-use mathlib.Core.Path.{_≡_, refl, subst, _∙_}
-use mathlib.Core.List.{List, _∷_, _++_}
-use Prim.Native.Nat.{ℕ, zero, suc, _^_, _<_, _≤_}
+use mathlib.Core.Path.{_≡_, refl, _∙_}
+use mathlib.Core.List.{List, _∷_}
+use Prim.Native.Nat.{ℕ, zero, suc, _^_, _<_}
 use native.Mathlib.Omega.{arith}
-use lib.ListN.{length, getD, drop}
-use Rattle.chain.specs.Paper.{preamble, done}
+use lib.ListN.{length, take, getD}
+use Rattle.chain.specs.Paper.{preamble}
 use Rattle.hunt.specs.Bits.{bitAt, bitsFrom, byteAt}
-use Rattle.hunt.specs.Hunt.{foundAt, huntedBytes, Hunt}
+use Rattle.hunt.specs.Hunt.{foundAt, huntedBytes, huntOf, huntOut}
 use Rattle.hunt.proofs.Found.{begins-in, begins-not, first-hit, first-miss}
-use Rattle.hunt.proofs.Answers.{written}
+use Rattle.hunt.proofs.Answers.{number-done, done-front}
 use Rattle.hunt.proofs.HuntedOut.{hunted-rest}
 
 module _ (xs : List ℕ) where
@@ -34,11 +34,9 @@ module _ (xs : List ℕ) where
       below (suc zero) = omega arith
       below (suc (suc i)) = bytes i
 
-  -- and the call on it
-  pub framed-hunt : ((i : ℕ) → getD xs i 0 < 2 ^ 8) → (out : List ℕ) → length xs < length out
-      → Hunt (0 ∷ preamble ∷ xs) out (record { number = done; length = suc (length xs) }) (preamble ∷ xs ++ drop (suc (length xs)) out)
-  framed-hunt bytes out l =
-      subst (λ (bs : List ℕ). length bs ≤ length out → Hunt (0 ∷ preamble ∷ xs) out (record { number = done; length = length bs }) (bs ++ drop (length bs) out))
-      (framed-bytes bytes)
-      (written (0 ∷ preamble ∷ xs) out (omega (arith, framed-at)))
-      l
+  -- and the call on it, lent room for all of it
+  pub framed-front : ((i : ℕ) → getD xs i 0 < 2 ^ 8) → (out : List ℕ) → length xs < length out
+      → take (huntOf (0 ∷ preamble ∷ xs) (length out) .length) (huntOut (0 ∷ preamble ∷ xs) out) ≡ preamble ∷ xs
+  framed-front bytes out l =
+      let e = framed-bytes bytes in
+      done-front (0 ∷ preamble ∷ xs) out (number-done (0 ∷ preamble ∷ xs) out (omega (arith, framed-at)) (rw e l)) ∙ e

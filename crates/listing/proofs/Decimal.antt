@@ -77,12 +77,12 @@ unfolding decimalOf
 decimal-short k n h = within-short (suc n) k n h
 
 -- the longest lines: a window's number is a byte and its bounds are of 16 bits, an answer's number is a byte and its bytes taken are of 32
-pub window-digits : (n start end : ℕ) → n < 2 ^ 8 → start < 2 ^ 16 → end < 2 ^ 16
+window-digits : (n start end : ℕ) → n < 2 ^ 8 → start < 2 ^ 16 → end < 2 ^ 16
     → (length (decimalOf n) ≤ 3) × (length (decimalOf start) ≤ 5) × (length (decimalOf end) ≤ 5)
 window-digits n start end h k l =
     (decimal-short 2 n (omega arith), decimal-short 4 start (omega arith), decimal-short 4 end (omega arith))
 
-pub answer-digits : (number taken : ℕ) → number < 2 ^ 8 → taken < 2 ^ 32 → (length (decimalOf number) ≤ 3) × (length (decimalOf taken) ≤ 10)
+answer-digits : (number taken : ℕ) → number < 2 ^ 8 → taken < 2 ^ 32 → (length (decimalOf number) ≤ 3) × (length (decimalOf taken) ≤ 10)
 answer-digits number taken h k = (decimal-short 2 number (omega arith), decimal-short 9 taken (omega arith))
 
 pub window-line : (n start end : ℕ) → n < 2 ^ 8 → start < 2 ^ 16 → end < 2 ^ 16 → length (lineOf letter·W (n ∷ start ∷ end ∷ [])) ≤ 18

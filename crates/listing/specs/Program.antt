@@ -1,5 +1,5 @@
 -- The listing program: the text that it writes for every input. Assumes nothing.
-use Prim.Native.Nat.{ℕ, _+_}
+use Prim.Native.Nat.{ℕ, _+_, _*_, _≤_}
 use mathlib.Core.Bool.{Bool, not, _&&_, _||_}
 use mathlib.Core.Path.{_≡_}
 use mathlib.Core.List.{List, [], _∷_, _++_}
@@ -13,7 +13,8 @@ use Rattle.lister.specs.declared.stream.Stop.{Stop}
 use Rattle.lister.specs.declared.window.ReadWindow.{ReadWindow}
 use Rattle.lister.specs.Stops.{Row, _gives_after_, firstStop}
 use Rattle.lister.specs.Listing.{preambleAt, listStop, listingOf, startsOf, endsOf}
-use Rattle.listing.specs.Lines.{letter·A, letter·L, letter·W, lineOf}
+use Rattle.listing.specs.declared.text.Listing.{Listing}
+use Rattle.listing.specs.Lines.{letter·A, letter·L, letter·W, lineOf, Puts}
 
 -- bytes of input in all, and windows that a stream can have
 abbrev pub most-input : ℕ
@@ -62,9 +63,11 @@ answerLine number taken = lineOf letter·A (number ∷ taken ∷ [])
 abbrev pub windowsListed : ℕ → ℕ → List ℕ → Stop → List ReadWindow
 windowsListed kind mode given e = listingOf (sizeOf kind) given (preambleAt mode) e
 
+abbrev pub windowsText : ℕ → ℕ → List ℕ → Stop → List ℕ
+windowsText kind mode given e = windowLines 1 (startsOf (windowsListed kind mode given e)) (endsOf (windowsListed kind mode given e))
+
 unfoldable pub linesOf : ℕ → ℕ → List ℕ → Stop → List ℕ
-linesOf kind mode given e =
-    windowLines 1 (startsOf (windowsListed kind mode given e)) (endsOf (windowsListed kind mode given e)) ++ answerLine (e .number) (e .taken)
+linesOf kind mode given e = windowsText kind mode given e ++ answerLine (e .number) (e .taken)
 
 unfoldable pub programLines : ℕ → ℕ → List ℕ → List ℕ
 programLines kind mode s = linesOf kind mode (givenOf mode s) (programStop kind mode s)
@@ -75,6 +78,13 @@ textOf input =
     pick (ltb (length input) 2) (answerLine bad-chain 0)
     (pick (ltb most-input (length input)) (lineOf letter·L [])
     (programLines (getD input 1 0) (getD input 0 0) (drop 2 input)))
+
+-- the windows' lines put, and what the lister answered for the last line: of a private contract
+pub record ListedTo (kind mode : ℕ) (given out : List ℕ) (r : Listing) (out′ : List ℕ) : Type 0 where
+  pub number : r .number ≡ listerStop kind mode given .number
+  pub taken : r .taken ≡ listerStop kind mode given .taken
+  pub lines : Puts 0 (windowsText kind mode given (listerStop kind mode given)) out (r .at) out′
+  pub short : r .at ≤ 18 * most-windows
 
 -- what a reader may hold the text to: all of it stands at the front of the output, and its length is answered
 pub record Writes (input out : List ℕ) (r : ℕ) (out′ : List ℕ) : Type 0 where

@@ -10,8 +10,8 @@ ghost use mathlib.Core.List.{[], _∷_, _++_};
 ghost use Prim.Native.Nat.{_+_, _*_, _≤_, _<_};
 ghost use lib.ListN.{length, take};
 ghost use Rattle.io.specs.Counts.{Counts};
-ghost use Rattle.listing.specs.Lines.{letter·A, letter·W, space, decimalOf, lineOf, Puts};
-ghost use Rattle.listing.specs.Program.{answerLine, windowLines, most-input, most-text, serial, listerStop, linesOf, programLines, Writes};
+ghost use Rattle.listing.specs.Lines.{letter·W, space, decimalOf, numbersOf, lineOf, Puts};
+ghost use Rattle.listing.specs.Program.{windowLines, most-input, most-text, serial, programLines, ListedTo, Writes};
 
 // The most bytes of input, mode byte and kind byte among them.
 pub const MOST_INPUT: usize = 65536;
@@ -42,16 +42,34 @@ fn number(n: u32, at: usize, out: &mut [u8]) -> usize
     from + k
 }
 
+// The rest of a line: numbers, and a line feed.
+fn numbers(ns: &[u32], at: usize, out: &mut [u8]) -> usize
+    requires { ⌜ at + length (numbersOf (now ns)) ≤ length (now out) ⌝ }
+    ensures { λ r. ⌜ Puts at (numbersOf (now (ns .entry))) (now (out .entry)) r (now (out .exit)) ⌝ }
+{
+    let mut to = at;
+    let mut i: usize = 0;
+    while i < ns.len() {
+        to = number(ns[i], to, out);
+        i += 1;
+    }
+    put(b'\n', to, out)
+}
+
+fn line(letter: u8, ns: &[u32], at: usize, out: &mut [u8]) -> usize
+    requires { ⌜ at + length (lineOf letter (now ns)) ≤ length (now out) ⌝ }
+    ensures { λ r. ⌜ Puts at (lineOf letter (now (ns .entry))) (now (out .entry)) r (now (out .exit)) ⌝ }
+{
+    let to = put(letter, at, out);
+    numbers(ns, to, out)
+}
+
 fn window(n: u8, start: u16, end: u16, at: usize, out: &mut [u8]) -> usize
     requires { ⌜ at + 18 ≤ length (now out) ⌝ }
     ensures { λ r. ⌜ Puts at (lineOf letter·W (n ∷ start ∷ end ∷ [])) (now (out .entry)) r (now (out .exit)) ⌝ }
     ensures { λ r. ⌜ r ≤ at + 18 ⌝ }
 {
-    let a = put(b'W', at, out);
-    let b = number(n as u32, a, out);
-    let c = number(start as u32, b, out);
-    let d = number(end as u32, c, out);
-    put(b'\n', d, out)
+    line(b'W', &[n as u32, start as u32, end as u32], at, out)
 }
 
 // The lines of the first n windows of two tables.
@@ -69,29 +87,28 @@ fn windows(n: u8, starts: &[u16], ends: &[u16], out: &mut [u8]) -> usize
     at
 }
 
-fn answer(code: u8, taken: u32, at: usize, out: &mut [u8]) -> usize
-    requires { ⌜ at + 17 ≤ length (now out) ⌝ }
-    ensures { λ r. ⌜ Puts at (answerLine code taken) (now (out .entry)) r (now (out .exit)) ⌝ }
-    ensures { λ r. ⌜ r ≤ at + 17 ⌝ }
-{
-    let a = put(b'A', at, out);
-    let b = number(code as u32, a, out);
-    let c = number(taken, b, out);
-    put(b'\n', c, out)
+// What was listed: the number and the bytes taken for the last line, and where the windows' lines stop.
+struct Listing {
+    number: u8,
+    taken: u32,
+    at: usize,
 }
 
-// The lines of the bytes that the lister is given.
-fn listed(kind: u8, mode: u8, given: &[u8], out: &mut [u8]) -> usize
+// The windows' lines of the bytes that the lister is given.
+fn listed(kind: u8, mode: u8, given: &[u8], out: &mut [u8]) -> Listing
     requires { ⌜ most-text ≤ length (now out) ⌝ }
-    ensures { λ r. ⌜ Puts 0 (linesOf kind mode (now (given .entry)) (listerStop kind mode (now (given .entry)))) (now (out .entry)) r (now (out .exit)) ⌝ }
-    ensures { λ r. ⌜ r ≤ most-text ⌝ }
+    ensures { λ r. ⌜ ListedTo kind mode (now (given .entry)) (now (out .entry)) r (now (out .exit)) ⌝ }
 {
     let mut starts = [0u16; MOST_WINDOWS];
     let mut ends = [0u16; MOST_WINDOWS];
     let mut offsets = [0u32; MOST_WINDOWS];
     let r = list(kind, mode, given, &mut starts, &mut ends, &mut offsets);
     let at = windows(r.windows, &starts, &ends, out);
-    answer(r.number, r.taken, at, out)
+    Listing {
+        number: r.number,
+        taken: r.taken,
+        at: at,
+    }
 }
 
 // Modes 3 and 4: the lister is given the hunted bytes. Kind is tested before the hunt.
@@ -101,15 +118,16 @@ fn hunted(kind: u8, mode: u8, s: &[u8], out: &mut [u8]) -> usize
     ensures { λ r. ⌜ r ≤ most-text ⌝ }
 {
     if size_of(kind) == 0 {
-        return answer(BAD_CHAIN, 0, 0, out);
+        return line(b'A', &[BAD_CHAIN as u32, 0], 0, out);
     }
     let mut found = [0u8; MOST_INPUT];
     let h = hunt(s, &mut found);
     if h.number != DONE {
-        return answer(NO_PREAMBLE, 0, 0, out);
+        return line(b'A', &[NO_PREAMBLE as u32, 0], 0, out);
     }
     let n = h.length;
-    listed(kind, mode, &found[..n], out)
+    let r = listed(kind, mode, &found[..n], out);
+    line(b'A', &[r.number as u32, r.taken], r.at, out)
 }
 
 // The text for an input, which is mode byte, kind byte and stream; its length is answered.
@@ -118,16 +136,16 @@ pub fn text(input: &[u8], out: &mut [u8; MOST_TEXT]) -> usize
     ensures { λ r. ⌜ Counts r (now (out .exit)) ⌝ }
 {
     if input.len() < 2 {
-        return answer(BAD_CHAIN, 0, 0, out);
+        return line(b'A', &[BAD_CHAIN as u32, 0], 0, out);
     }
     if MOST_INPUT < input.len() {
-        let at = put(b'L', 0, out);
-        return put(b'\n', at, out);
+        return line(b'L', &[], 0, out);
     }
     let mode = input[0];
     let kind = input[1];
     if (mode == SERIAL_EXTERNAL) | (mode == SERIAL_INTERNAL) {
         return hunted(kind, mode, &input[2..], out);
     }
-    listed(kind, mode, &input[2..], out)
+    let r = listed(kind, mode, &input[2..], out);
+    line(b'A', &[r.number as u32, r.taken], r.at, out)
 }

@@ -5,8 +5,7 @@ use mathlib.Core.Path.{_≡_, refl, ap, sym, subst, _∙_}
 use mathlib.Core.List.{List, [], _∷_, append-nil}
 use native.Mathlib.Omega.{arith}
 use lib.Dec.{eqb}
-use lib.ListN.{length, take, drop, replicate, length-replicate}
-use lib.Seq.{take-at}
+use lib.ListN.{length, take, replicate, length-replicate}
 use Rattle.chain.specs.Paper.{preamble, serial-external, serial-internal, two-preambles, done}
 use Rattle.chain.specs.Kinds.{sizeOf, baseOf}
 use Rattle.chain.proofs.ByCases.{by-test}
@@ -16,7 +15,7 @@ use Rattle.writer.proofs.Accepted.{Accepted, accepted}
 use Rattle.writer.proofs.Lengths.{front}
 use Rattle.writer.proofs.TablesFit.{from-cells, from-fits}
 use Rattle.grammar.proofs.FromTables.{from-starts, from-ends, from-many, from-nulled}
-use Rattle.hunt.proofs.Framed.{framed-hunt}
+use Rattle.hunt.proofs.Framed.{framed-front}
 use Rattle.grammar.specs.Stream.{Section, sectionsSent, streamSent}
 use Rattle.grammar.specs.Sent.{bytesOf}
 use Rattle.grammar.specs.Fits.{SectionFits}
@@ -39,8 +38,7 @@ hunted-given : (bs : List ℕ) → Bytes bs
     ≡ preamble ∷ bs
 hunted-given bs u =
     let n : ℕ = suc (suc (length bs)) in
-    let h = framed-hunt bs (bytes-at bs u) (replicate n 0) (omega (arith, length-replicate {A = ℕ} n 0)) in
-    rw (← h .answer, ← h .output) (take-at (preamble ∷ bs) (drop (suc (length bs)) (replicate n 0)) (suc (length bs)) refl)
+    framed-front bs (bytes-at bs u) (replicate n 0) (omega (arith, length-replicate {A = ℕ} n 0))
 
 given-is : (mode : ℕ) (x : Section) → Bytes (bytesOf (sectionsSent noChain 0 x [])) → given ours mode (wanted mode x) ≡ bytesOf (streamSent noChain mode x [])
 unfolding leadIn

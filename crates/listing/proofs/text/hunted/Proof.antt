@@ -1,31 +1,43 @@
 -- `text::hunted` meets its contract: a law for each of its three ways. Assumes nothing.
 use mathlib.Core.Path.{sym, _∙_}
 use borrow.Author.Needs.{needs}
+use native.Mathlib.Omega.{arith}
+use Prim.Native.Nat.{_<_, _^_}
+use Rattle.chain.specs.Paper.{bad-chain, no-preamble}
+use Rattle.listing.proofs.Decimal.{answer-line}
+use Rattle.listing.proofs.Listings.{lines-put}
 use Rattle.listing.proofs.Ways.{hunt-count, hunt-fails, hunt-finds, hunt-inside, hunt-front, way-kind, way-nowhere, way-hunted}
 use Rattle.listing.proofs.text.hunted.Statement.{statement}
 use Rattle.listing.proofs.text.hunted.Tie as tie
 
+line-requires : tie.Need-line-requires
+line-requires c κs = omega (arith, answer-line bad-chain 0 (omega arith) (omega arith))
+
 returns : tie.Need-returns
 returns c =
-    let at-if1 = c .before .before .before .before in
+    let at-if1 = c .before .before .before .before .before in
     let at-size-of = at-if1 .before in
-    let entry = at-size-of .before .before .before in
-    let a = entry .args in
-    let e = way-kind (a .kind) (a .mode) (a .s .now) (sym (at-size-of .size-of .ensures) ∙ (at-if1 .if1 .taken)) in
-    (rw e (c .before .before .answer .ensures .0), search needs)
+    let a = at-size-of .before .before .before .args in
+    let p = c .before .before .line .ensures in
+    let e = way-kind (a .kind) (a .mode) (a .s .now) (sym (at-size-of .size-of .ensures) ∙ at-if1 .if1 .taken) in
+    (rw e p, omega (arith, p .stops, answer-line bad-chain 0 (omega arith) (omega arith)))
+
+line-requires-2 : tie.Need-line-requires-2
+line-requires-2 c κs = omega (arith, answer-line no-preamble 0 (omega arith) (omega arith))
 
 returns-2 : tie.Need-returns-2
 returns-2 c =
-    let at-if2 = c .before .before .before .before in
+    let at-if2 = c .before .before .before .before .before in
     let at-hunt = at-if2 .before .before .before in
     let at-if1 = at-hunt .before .before in
     let at-size-of = at-if1 .before in
     let entry = at-size-of .before .before .before in
     let a = entry .args in
     let h = at-hunt .hunt in
+    let p = c .before .before .line2 .ensures in
     let f = hunt-fails (a .s .now) _ (h .result) _ (h .ensures) (search needs) (at-if2 .if2 .taken) in
     let e = way-nowhere (a .kind) (a .mode) (a .s .now) (λ z. (at-if1 .if1 .left) ((at-size-of .size-of .ensures) ∙ z)) (entry .pre .0) f in
-    (rw e (c .before .before .answer2 .ensures .0), search needs)
+    (rw e p, omega (arith, p .stops, answer-line no-preamble 0 (omega arith) (omega arith)))
 
 array-share-prefix-found : tie.Need-array-share-prefix-found
 array-share-prefix-found c =
@@ -44,22 +56,37 @@ slice-aggregate-listed c =
     let h = at-hunt .hunt in
     hunt-count (a .s .now) _ (h .result) _ (h .ensures) (search needs) (c .before .if2 .left)
 
+line-requires-3 : tie.Need-line-requires-3
+line-requires-3 c κs =
+    let l = c .before .before .before .before .before .listed in
+    let n : l .result .number < 2 ^ 8 = search needs in
+    let t : l .result .taken < 2 ^ 32 = search needs in
+    omega (arith, l .ensures .short, answer-line (l .result .number) (l .result .taken) n t)
+
 returns-3 : tie.Need-returns-3
 returns-3 c =
-    let at-if2 = c .before .before .before .before .before in
+    let at-listed = c .before .before .before .before .before .before .before .before in
+    let at-if2 = at-listed .before .before .before in
     let at-hunt = at-if2 .before .before .before in
     let at-if1 = at-hunt .before .before in
     let at-size-of = at-if1 .before in
     let entry = at-size-of .before .before .before in
     let a = entry .args in
     let h = at-hunt .hunt in
+    let l = at-listed .listed in
+    let p = c .before .before .line3 .ensures in
+    let k = c .before .before .before .before .before .struct-known2 .given in
+    let n : l .result .number < 2 ^ 8 = k .0 .fits in
+    let t : l .result .taken < 2 ^ 32 = k .1 .0 .fits in
     let f = hunt-finds (a .s .now) _ (h .result) _ (h .ensures) (search needs) (at-if2 .if2 .left) in
     let g = hunt-front (a .s .now) _ (h .result) _ (h .ensures) (search needs) (at-if2 .if2 .left) in
-    let e = way-hunted (a .kind) (a .mode) (a .s .now) (λ z. (at-if1 .if1 .left) ((at-size-of .size-of .ensures) ∙ z)) (entry .pre .0) f in
-    (rw e (rw g at (c .before .before .listed .ensures .0)), c .before .before .listed .ensures .1)
+    let e = way-hunted (a .kind) (a .mode) (a .s .now) (λ z. (at-if1 .if1 .left) ((at-size-of .size-of .ensures) ∙ z)) (entry .pre .0) f in (
+      rw e (lines-put (a .kind) (a .mode) _ (a .out .now) _ _ (l .result) _ (rw g at (l .ensures)) p),
+      omega (arith, p .stops, l .ensures .short, answer-line (l .result .number) (l .result .taken) n t),
+    )
 
 pub hunted-spec : {M : Type 1} → statement M
 hunted-spec =
-    tie.close (tie.spec (search needs) (search needs) (search needs) returns (search needs) (search needs)
-    (search needs) (search needs) returns-2 array-share-prefix-found slice-aggregate-listed (search needs)
-    (search needs) returns-3)
+    tie.close (tie.spec (search needs) (search needs) (search needs) (search needs) line-requires (search needs) returns
+    (search needs) (search needs) (search needs) line-requires-2 (search needs) returns-2
+    array-share-prefix-found slice-aggregate-listed (search needs) (search needs) (search needs) line-requires-3 (search needs) returns-3)
