@@ -1,4 +1,5 @@
 //! The archive, through by_pointer.c.
+use crate::files::Hunted;
 use crate::loader::Answer;
 
 #[repr(C)]
@@ -34,7 +35,7 @@ extern "C" {
     fn raced_pick_up(c: *mut Chain, mem: *const u8, n: usize, saved: *const u8, saved_n: usize) -> u8;
     fn raced_closing(c: *const Chain, mem: *const u8, n: usize, out: *mut u8, out_n: usize) -> usize;
     fn raced_save(c: *const Chain, mem: *const u8, n: usize, out: *mut u8, out_n: usize) -> usize;
-    fn raced_hunt(s: *const u8, s_n: usize, out: *mut u8, out_n: usize) -> usize;
+    fn raced_hunt(s: *const u8, s_n: usize, out: *mut u8, out_n: usize, h: &mut Hunted);
     fn raced_write(
         kind: u8, mode: u8, control: u8, address: *const u8, starts: *const u16, starts_n: usize, ends: *const u16, ends_n: usize,
         data: *const u8, data_n: usize, out: *mut u8, out_n: usize,
@@ -87,8 +88,10 @@ impl Chain {
     }
 }
 
-pub fn hunt(s: &[u8], out: &mut [u8]) -> usize {
-    unsafe { raced_hunt(s.as_ptr(), s.len(), out.as_mut_ptr(), out.len()) }
+pub fn hunt(s: &[u8], out: &mut [u8]) -> Hunted {
+    let mut h = Hunted::default();
+    unsafe { raced_hunt(s.as_ptr(), s.len(), out.as_mut_ptr(), out.len(), &mut h) };
+    h
 }
 
 pub fn write(kind: u8, mode: u8, starts: &[u16], ends: &[u16], data: &[u8], out: &mut [u8]) -> usize {

@@ -34,8 +34,8 @@ size_t raced_save(const at6000_chain *c, const uint8_t *mem, size_t n, uint8_t *
     return at6000_save(*c, mem, n, out, out_n).length;
 }
 
-size_t raced_hunt(const uint8_t *s, size_t s_n, uint8_t *out, size_t out_n) {
-    return at6000_hunt(s, s_n, out, out_n).length;
+void raced_hunt(const uint8_t *s, size_t s_n, uint8_t *out, size_t out_n, at6000_hunted *h) {
+    *h = at6000_hunt(s, s_n, out, out_n);
 }
 
 size_t raced_write(uint8_t kind, uint8_t mode, uint8_t control, const uint8_t address[3], const uint16_t *starts, size_t starts_n,

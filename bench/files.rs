@@ -1,8 +1,19 @@
 //! The hunt, the writer and the lister in safe Rust, to be raced.
 use crate::loader::{size_of, POSTAMBLE, PREAMBLE};
 
+/// What a hunt answers, as at6000_hunted has it.
+#[repr(C)]
+#[derive(Clone, Copy, Default, PartialEq, Debug)]
+pub struct Hunted {
+    pub number: u8,
+    pub p: u8,
+    pub left: u8,
+    pub length: usize,
+}
+
 #[inline(never)]
-pub fn hunt(s: &[u8], out: &mut [u8]) -> (u8, usize) {
+pub fn hunt(s: &[u8], out: &mut [u8]) -> Hunted {
+    let refused = |number| Hunted { number, p: 0, left: 0, length: 0 };
     let at = |p: usize| -> Option<u8> {
         let (q, k) = (p / 8, p % 8);
         let low = *s.get(q)?;
@@ -11,20 +22,20 @@ pub fn hunt(s: &[u8], out: &mut [u8]) -> (u8, usize) {
         }
         Some(low >> k | s.get(q + 1)? << (8 - k))
     };
-    let Some(p) = (0..=64).find(|p| at(*p) == Some(PREAMBLE)) else { return (5, 0) };
+    let Some(p) = (0..=64).find(|p| at(*p) == Some(PREAMBLE)) else { return refused(5) };
     let (q, k) = (p / 8, p % 8);
     if k == 0 {
         let bytes = &s[q..];
-        let Some(out) = out.get_mut(..bytes.len()) else { return (15, 0) };
+        let Some(out) = out.get_mut(..bytes.len()) else { return refused(15) };
         out.copy_from_slice(bytes);
-        return (0, bytes.len());
+        return Hunted { number: 0, p: p as u8, left: 0, length: bytes.len() };
     }
     let n = s.len() - q - 1;
-    let Some(out) = out.get_mut(..n) else { return (15, 0) };
+    let Some(out) = out.get_mut(..n) else { return refused(15) };
     for (o, two) in out.iter_mut().zip(s[q..].windows(2)) {
         *o = two[0] >> k | two[1] << (8 - k);
     }
-    (0, n)
+    Hunted { number: 0, p: p as u8, left: 8 - k as u8, length: n }
 }
 
 #[inline(never)]

@@ -159,14 +159,14 @@ impl Bench {
         s[p / 8] |= bits as u8;
         s[p / 8 + 1] |= (bits >> 8) as u8;
         let (mut o1, mut o2, mut o3) = (vec![0; s.len()], vec![0; s.len()], vec![0; s.len()]);
-        let n = archive::hunt(&s, &mut o1);
-        assert_eq!((0, n), files::hunt(&s, &mut o2));
-        assert!(n > 65000 && o1 == o2 && o1[0] == PREAMBLE);
+        let found = archive::hunt(&s, &mut o1);
+        assert_eq!(found, files::hunt(&s, &mut o2));
+        assert!(found.p as usize == p && found.length > 65000 && o1 == o2 && o1[0] == PREAMBLE);
         self.row(
             &format!("hunt of 64 KiB, offset {p}"),
             vec![
-                runner("archive", || assert_eq!(archive::hunt(black_box(&s), black_box(&mut o1)), n)),
-                runner("Rust", || assert_eq!(files::hunt(black_box(&s), black_box(&mut o2)), (0, n))),
+                runner("archive", || assert_eq!(archive::hunt(black_box(&s), black_box(&mut o1)), found)),
+                runner("Rust", || assert_eq!(files::hunt(black_box(&s), black_box(&mut o2)), found)),
                 runner("memcpy", || black_box(&mut o3[..]).copy_from_slice(black_box(&s))),
             ],
         );

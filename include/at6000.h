@@ -63,7 +63,7 @@ typedef struct at6000_made { at6000_chain chain; uint8_t number; } at6000_made;
 typedef struct at6000_answer { uint8_t number; uint32_t taken, mismatches; } at6000_answer;
 typedef struct at6000_fed { at6000_chain chain; at6000_answer answer; } at6000_fed;
 typedef struct at6000_written { uint8_t number; size_t length; } at6000_written;
-typedef struct at6000_hunted { uint8_t number; size_t length; } at6000_hunted;
+typedef struct at6000_hunted { uint8_t number, p, left; size_t length; } at6000_hunted;
 typedef struct at6000_listed { uint8_t number, windows, control, address[3]; uint32_t taken; } at6000_listed;
 
 /* The layout is part of the interface: a line that does not compile says that this compiler has another. */
@@ -74,7 +74,8 @@ AT6000_IS(made, sizeof(at6000_made) == 48 && offsetof(at6000_made, number) == 44
 AT6000_IS(answer, sizeof(at6000_answer) == 12 && offsetof(at6000_answer, taken) == 4);
 AT6000_IS(fed, sizeof(at6000_fed) == 56 && offsetof(at6000_fed, answer) == 44);
 AT6000_IS(written, sizeof(at6000_written) == 16 && offsetof(at6000_written, length) == 8);
-AT6000_IS(hunted, sizeof(at6000_hunted) == 16 && offsetof(at6000_hunted, length) == 8);
+AT6000_IS(hunted, sizeof(at6000_hunted) == 16 && offsetof(at6000_hunted, p) == 1 && offsetof(at6000_hunted, left) == 2
+                      && offsetof(at6000_hunted, length) == 8);
 AT6000_IS(listed, sizeof(at6000_listed) == 12 && offsetof(at6000_listed, address) == 3 && offsetof(at6000_listed, taken) == 8);
 #undef AT6000_IS
 
@@ -118,7 +119,9 @@ at6000_made at6000_drop(at6000_chain c, const uint8_t *mem, size_t mem_len);
 at6000_made at6000_pick_up(at6000_chain c, const uint8_t *mem, size_t mem_len, const uint8_t *saved, size_t saved_len);
 
 /* For the serial modes 3 and 4, where each byte comes least significant bit first: finds the first bit position, 0 to 64, where
- * eight bits make B2, and writes the whole bytes from there on. Gives 5, 15, else 0; outputs as for closing. */
+ * eight bits make B2, and writes the whole bytes from there on. Answers that position, p, and the bits left after the last
+ * whole byte, 0 to 7: 8 * s_len is p + 8 * length + left. Gives 5, 15, else 0; refused, p and left are 0. Outputs as for
+ * closing. */
 at6000_hunted at6000_hunt(const uint8_t *s, size_t s_len, uint8_t *out, size_t out_len);
 
 /* Writes the stream of these windows, start to end inclusive, for one device; data is the windows' bytes one after another, the

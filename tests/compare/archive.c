@@ -12,7 +12,7 @@
 
 enum { FRAME = 1 << 20, ARENA = 1 << 21, GUARD = 32, PIECES = 16 };
 enum { NEW, RESET, START, BYTE, SLICE, CLOSING, SAVE, PICK_UP, HUNT, WRITE, LIST, DROP };
-enum { MADE = 1, FED, WRITTEN, LISTED, MEMORY, OUTPUT, STARTS, ENDS, OFFSETS };
+enum { MADE = 1, FED, WRITTEN, LISTED, MEMORY, OUTPUT, STARTS, ENDS, OFFSETS, HUNTED };
 enum { GUARD_TOUCHED = 1, INPUT_CHANGED = 2 };
 
 static void stop(const char *why) {
@@ -110,6 +110,15 @@ static void put_written(uint8_t number, size_t length) {
     uint64_t wide = length;
     put8(WRITTEN);
     put8(number);
+    put(&wide, 8);
+}
+
+static void put_hunted(at6000_hunted hunted) {
+    uint64_t wide = hunted.length;
+    put8(HUNTED);
+    put8(hunted.number);
+    put8(hunted.p);
+    put8(hunted.left);
     put(&wide, 8);
 }
 
@@ -287,11 +296,9 @@ static void make_hunt(void) {
     size_t s_len = take32(), out_len;
     const uint8_t *s = lend_const(take(s_len), s_len, 1);
     uint8_t *out;
-    at6000_hunted hunted;
     out_len = take32();
     out = lend_output(out_len, take8(), 1);
-    hunted = at6000_hunt(s, s_len, out, out_len);
-    put_written(hunted.number, hunted.length);
+    put_hunted(at6000_hunt(s, s_len, out, out_len));
     put_bytes(OUTPUT, out, out_len);
 }
 

@@ -2,7 +2,7 @@
 
 use crate::model::chain::{new, reset, Chain, Made};
 use crate::model::closing::closing;
-use crate::model::hunt::hunt;
+use crate::model::hunt::{hunt, Hunted};
 use crate::model::lister::{list, Listed, Tables};
 use crate::model::machine::{byte, drop, slice, start, Fed};
 use crate::model::numbers::DONE;
@@ -50,6 +50,7 @@ pub enum Part {
     Made(Made),
     Fed(Fed),
     Written(Written),
+    Hunted(Hunted),
     Listed(Listed),
     Memory(Vec<u8>),
     Output(Vec<u8>),
@@ -64,10 +65,21 @@ impl Part {
             Part::Made(made) => Some(made.number),
             Part::Fed(fed) => Some(fed.answer.number),
             Part::Written(written) => Some(written.number),
+            Part::Hunted(hunted) => Some(hunted.number),
             Part::Listed(listed) => Some(listed.number),
             _ => None,
         }
     }
+}
+
+/// The front part of the output that a call wrote; nothing where it refused.
+pub fn written(parts: &[Part]) -> Vec<u8> {
+    let (length, output) = match parts {
+        [Part::Written(written), Part::Output(output), ..] => (written.length, output),
+        [Part::Hunted(hunted), Part::Output(output), ..] => (hunted.length, output),
+        _ => return Vec::new(),
+    };
+    output[..length as usize].to_vec()
 }
 
 /// What the model says: answers, states, memory and outputs after. An in-place call follows its twin with the same
@@ -112,7 +124,7 @@ pub fn by_model(call: &Call) -> Vec<Part> {
         }
         Call::Hunt { stream, room } => {
             let mut output = room.bytes();
-            vec![Part::Written(hunt(stream, &mut output)), Part::Output(output)]
+            vec![Part::Hunted(hunt(stream, &mut output)), Part::Output(output)]
         }
         Call::Write { order, room } => {
             let mut output = room.bytes();

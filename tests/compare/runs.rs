@@ -1,6 +1,6 @@
 //! Long runs: a stream cut into slices, the state carried over from call to call, with the other calls in between.
 
-use crate::call::{Call, Part, Room};
+use crate::call::{written, Call, Part, Room};
 use crate::chains::{sound, Lent};
 use crate::model::chain::Chain;
 use crate::model::numbers::*;
@@ -168,13 +168,5 @@ impl Run<'_, '_> {
             }
         }
         parts[0].number().unwrap_or(MORE)
-    }
-}
-
-/// The front part of the output that a call wrote; nothing where it refused.
-fn written(parts: &[Part]) -> Vec<u8> {
-    match parts {
-        [Part::Written(written), Part::Output(output), ..] => output[..written.length as usize].to_vec(),
-        _ => Vec::new(),
     }
 }

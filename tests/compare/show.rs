@@ -74,6 +74,7 @@ fn part(part: &Part) -> String {
             )
         }
         Part::Written(written) => format!("number {} length {}", written.number, written.length),
+        Part::Hunted(hunted) => format!("{hunted:?}"),
         Part::Listed(listed) => format!("{listed:?}"),
         Part::Memory(bytes) => format!("memory {}", hex(bytes)),
         Part::Output(bytes) => format!("output {}", hex(bytes)),

@@ -4,7 +4,7 @@ use crate::call::Call;
 use crate::calls::{mode, room};
 use crate::chains::register;
 use crate::model::chain::Chain;
-use crate::model::hunt::hunt;
+use crate::model::hunt::{hunt, Hunted};
 use crate::model::kinds::{size_of, KINDS};
 use crate::model::lister::{list, Tables};
 use crate::model::numbers::{PREAMBLE, TWO_PREAMBLES};
@@ -49,7 +49,7 @@ pub fn hunt_call(random: &mut Random) -> Call {
         }
     }
     let mut output = vec![0; length];
-    let Written { length: needed, .. } = hunt(&stream, &mut output);
+    let Hunted { length: needed, .. } = hunt(&stream, &mut output);
     Call::Hunt { stream, room: room(random, needed as usize) }
 }
 

@@ -1,8 +1,9 @@
 //! The paper's twelve cases, with its own values: they hold the model to the paper, and are compared like all other
 //! calls.
 
-use crate::call::{Call, Part, Room};
+use crate::call::{written, Call, Part, Room};
 use crate::model::chain::Chain;
+use crate::model::hunt::Hunted;
 use crate::model::machine::Answer;
 use crate::model::numbers::*;
 use crate::model::writer::Order;
@@ -55,7 +56,7 @@ impl<'a, 'b> Device<'a, 'b> {
 
     fn closing(&mut self) -> Vec<u8> {
         let room = Room { length: 55, fill: 0xAA };
-        front(&(self.make)(Call::Closing { chain: self.chain, memory: self.memory.clone(), room }))
+        written(&(self.make)(Call::Closing { chain: self.chain, memory: self.memory.clone(), room }))
     }
 
     /// These cells from 9 on, and all others zero.
@@ -63,14 +64,6 @@ impl<'a, 'b> Device<'a, 'b> {
         let mut expected = vec![0; self.memory.len()];
         expected[9..9 + cells.len()].copy_from_slice(cells);
         self.memory == expected
-    }
-}
-
-/// What was written to an output.
-fn front(parts: &[Part]) -> Vec<u8> {
-    match parts {
-        [Part::Written(written), Part::Output(output), ..] => output[..written.length as usize].to_vec(),
-        _ => Vec::new(),
     }
 }
 
@@ -117,12 +110,15 @@ pub fn twelve(make: &mut Make) -> Vec<String> {
     case("11", device.load(&STREAM_A[..8]) == (16, 8) && device.closing() == [0xFF, 0xFF, 0xFF]);
 
     let room = Room { length: 2, fill: 0xAA };
-    case("12", front(&make(Call::Hunt { stream: vec![0x64, 0x01], room })) == [0xB2]);
+    let parts = make(Call::Hunt { stream: vec![0x64, 0x01], room });
+    // "Hunt over 64 01: p = 1": 16 bits are one before the preamble, eight of it, and seven more
+    let one = Part::Hunted(Hunted { number: 0, p: 1, left: 7, length: 1 });
+    case("12", parts[0] == one && written(&parts) == [0xB2]);
 
     // "One window over a whole device takes size + 12 bytes in mode 1: 2,677 for kind 2."
     let (starts, ends, data) = (vec![0], vec![2664], vec![0x5A; 2665]);
     let order = Order { kind: 2, mode: 1, control: 0, address: [0; 3], starts, ends, data };
     let room = Room { length: 3000, fill: 0xAA };
-    case("of a whole device written", front(&make(Call::Write { order, room })).len() == 2677);
+    case("of a whole device written", written(&make(Call::Write { order, room })).len() == 2677);
     wrong
 }

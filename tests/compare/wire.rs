@@ -3,6 +3,7 @@
 
 use crate::call::{Call, Part, Room};
 use crate::model::chain::{Chain, Made, Place};
+use crate::model::hunt::Hunted;
 use crate::model::lister::Listed;
 use crate::model::machine::{Answer, Fed};
 use crate::model::output::Written;
@@ -16,6 +17,7 @@ const OUTPUT: u8 = 6;
 const STARTS: u8 = 7;
 const ENDS: u8 = 8;
 const OFFSETS: u8 = 9;
+const HUNTED: u8 = 10;
 
 fn put16(to: &mut Vec<u8>, value: u16) {
     to.extend(value.to_le_bytes());
@@ -148,6 +150,10 @@ fn put_part(to: &mut Vec<u8>, part: &Part) {
             to.extend([WRITTEN, written.number]);
             to.extend(written.length.to_le_bytes());
         }
+        Part::Hunted(hunted) => {
+            to.extend([HUNTED, hunted.number, hunted.p, hunted.left]);
+            to.extend(hunted.length.to_le_bytes());
+        }
         Part::Listed(listed) => {
             to.extend([LISTED, listed.number, listed.windows, listed.control]);
             to.extend(listed.address);
@@ -245,6 +251,12 @@ impl<'a> Reader<'a> {
                 Part::Fed(Fed { chain: self.chain()?, answer })
             }
             WRITTEN => Part::Written(Written { number: self.byte()?, length: self.number(8)? }),
+            HUNTED => Part::Hunted(Hunted {
+                number: self.byte()?,
+                p: self.byte()?,
+                left: self.byte()?,
+                length: self.number(8)?,
+            }),
             LISTED => Part::Listed(Listed {
                 number: self.byte()?,
                 windows: self.byte()?,

@@ -9,6 +9,7 @@ import os
 import re
 import sys
 
+# a landing's page speaks of its own day, and is not read
 DOCS = ["README.md"] + sorted(glob.glob("docs/*.md"))
 CRATES = sorted(os.listdir("crates"))
 

@@ -11,9 +11,10 @@ BEGIN, END = "<!-- counted by tests/docs/count.py -->\n", "<!-- end of count -->
 CALLS = ["chain", "cells", "awaited", "machine", "saved", "closing", "hunt", "grammar", "writer", "lister"]
 REST = ["at6000", "listing", "demands"]
 PARTS = [
-    ("no promise: contracts of private functions", ["chain/ByRow", "machine/Block", "closing/Put"]),
+    ("no promise: contracts of private functions", ["chain/ByRow", "machine/Block", "closing/Put", "listing/ListedTo"]),
     ("demand 1", ["chain/WellFormed", "chain/Table", "chain/Bytes", "demands/Demand1", "demands/Formed", "demands/Table", "demands/ByteTable", "demands/ListTable"]),
     ("demands 2 and 3", ["grammar/Fits", "grammar/Stores", "demands/Loader", "demands/Demand2", "demands/Files", "demands/Second", "demands/Demand3", "demands/Ours"]),
+    ("wish 4", ["demands/WherePreamble"]),
     ("the loaders shut out", ["demands/Wrong"]),
     ("the twelve cases", ["demands/Cases"]),
     ("the listing program", ["listing/Lines", "listing/Program"]),

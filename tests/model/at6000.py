@@ -1,4 +1,5 @@
-"""The model of document 01 in Python, written from the paper and not from the crates' code or definitions.
+"""The model of document 01, and of the requests of document 02 that have landed, in Python, written from the papers and not from the
+crates' code or definitions.
 
 It is short and slow on purpose: each function follows the paper's sentences in their order, which are quoted beside it. cases.py works
 out with it what the program `cases` must print, listing.py what the program `listing` must. Each of the twelve calls answers its number
@@ -436,7 +437,8 @@ def pick_up(c, mem, saved):
 
 def hunt(s, out):
     """ "the first bit position p, 0 to 64, where eight bits make B2. It writes the whole bytes that start at p into a lent output and drops a
-    last part byte." "Hunt: 5, 15." """
+    last part byte." "Hunt: 5, 15." "The hunt shall also answer p and the number of bits left after the last whole byte, both 0 on a refusal."
+    Answers number, p, left, length and the output. """
     bits = [b >> i & 1 for b in s for i in range(8)]  # "each byte least significant bit first"
 
     def byte_at(p):
@@ -444,8 +446,11 @@ def hunt(s, out):
 
     for p in range(65):
         if p + 8 <= len(bits) and byte_at(p) == PREAMBLE:
-            return put(out, [byte_at(q) for q in range(p, len(bits) - 7, 8)])
-    return 5, 0, out
+            begins = list(range(p, len(bits) - 7, 8))
+            number, length, out = put(out, [byte_at(q) for q in begins])
+            left = len(bits[begins[-1] + 8 :])
+            return (number, p, left, length, out) if number == 0 else (number, 0, 0, 0, out)
+    return 5, 0, 0, 0, out
 
 
 # ---- Writer and lister
@@ -533,14 +538,18 @@ def listing(data):
     if len(data) > MOST_INPUT:
         return ["L"]
     mode, kind, s = data[0], data[1], data[2:]
-    # "Otherwise kind and mode are tested, modes 3 and 4 hunt, and the lister follows."; "taken 0 where no byte reached the machine"
+    # "Otherwise kind and mode are tested, modes 3 and 4 hunt, and the lister follows."; "taken 0 where no byte reached the machine".
+    # "In modes 3 and 4 the listing program's last line becomes "A number taken p left", 0 0 where the hunt was not reached."
     number = device_number(kind, mode)
-    if number == 0 and mode in (3, 4):
-        number, length, hunted = hunt(s, bytes(len(s)))
+    serial = mode in (3, 4)
+    where = " 0 0" if serial else ""
+    if number == 0 and serial:
+        number, p, left, length, hunted = hunt(s, bytes(len(s)))
         s = hunted[:length]
+        where = f" {p} {left}"
     if number != 0:
-        return [f"A {number} 0"]
+        return [f"A {number} 0{where}"]
     room = [0] * 255
     number, windows, _, _, taken, starts, ends, _ = list_windows(kind, mode, s, room, room, room)
     # "If accepted, it prints a line "W n start end" for each window from 1, decimal. The last line is "A number taken"": not accepted, 0 windows
-    return [f"W {i + 1} {starts[i]} {ends[i]}" for i in range(windows)] + [f"A {number} {taken}"]
+    return [f"W {i + 1} {starts[i]} {ends[i]}" for i in range(windows)] + [f"A {number} {taken}{where}"]

@@ -1,9 +1,9 @@
-"""The cases of document 01 other than the twelve that are proved: what the program `cases` is given, and what it must print.
+"""The cases of documents 01 and 02 other than the twelve that are proved: what the program `cases` is given, and what it must print.
 
     python3 tests/model/cases.py            writes crates/cases/stdin (the script) and crates/cases/stdout (what must be printed)
     python3 tests/model/cases.py --check    works both out again and compares them with the files
 
-Each case cites the sentence of document 01 (or of the maker's guide) that it tries. Every call below says by hand which number it must give, and
+Each case cites the sentence of a document (or of the maker's guide) that it tries. Every call below says by hand which number it must give, and
 often which bytes; the model (at6000.py) has to agree, and gives the rest of the line: the whole state, what was written into the output and which
 cells of memory changed. No expected value is taken from a run of the program.
 
@@ -15,7 +15,8 @@ each), of two tables and of the arguments (two bytes each), high byte first. A l
     = state                        a state that the caller makes up
     n, r, s, d, p   number state   new, reset, start, drop, pick-up
     b, f   number taken mismatches state      byte, slice
-    c, v, h, w   number length     closing, save, hunt, write
+    c, v, w   number length        closing, save, write
+    h   number p left length       hunt
     l   number windows control address taken starts ends offset ..     list; entries that were not written are ee
 
 A state is count, kinds, registers; running, mode, check, device, awaited, windows left, control; start end next; taken, mismatches. Fields that a place gets
@@ -166,12 +167,13 @@ class Script:
     # ---- calls with an output
 
     def written(self, letter, number, want, got, room, **args):
-        """`room` is the length of the output lent, `want` the bytes it must hold in front, where they are said."""
-        n, length, out = got
+        """`room` is the length of the output lent, `want` the bytes it must hold in front, where they are said. An answer has its number first, its
+        length last, and single bytes between them."""
+        n, *figures, length, out = got
         self.agree(number, n)
         if want is not None:
             self.agree(bytes_of(want), out[:length])
-        self.line(letter, f" {n:02x} {length:08x}{changes('>', out, self.blank(room))}", out=room, **args)
+        self.line(letter, f" {bytes([n, *figures]).hex(' ')} {length:08x}{changes('>', out, self.blank(room))}", out=room, **args)
         return out[:length]
 
     def blank(self, room):
@@ -185,9 +187,15 @@ class Script:
         mem = self.lent(lent)
         return self.written("v", number, want, at6000.save(self.c, mem, self.blank(room)), room, mem=len(mem))
 
-    def hunt(self, number, s, want=None, room=80):
+    def hunt(self, number, s, want=None, room=80, where=None):
+        """`where` is p and the bits left, where they are said; a refusal has 0 and 0."""
         s = bytes_of(s)
-        return self.written("h", number, want, at6000.hunt(s, self.blank(room)), room, args=s)
+        got = at6000.hunt(s, self.blank(room))
+        if where is None and number != 0:
+            where = (0, 0)
+        if where is not None:
+            self.agree(where, got[1:3])
+        return self.written("h", number, want, got, room, args=s)
 
     def write(self, number, kind, mode, control, address, starts, ends, data, want=None, room=80):
         address, data = bytes_of(address), bytes_of(data)
@@ -1116,16 +1124,21 @@ def cases_picked_up(s):
 def cases_hunt(s):
     s.say("hunt, 0: 'the first bit position p, 0 to 64, where eight bits make B2. It writes the whole bytes that start at p .. and drops a last part byte'")
 
-    for p in (0, 1, 8, 64):
+    for p, left in ((0, 0), (1, 7), (8, 0), (64, 0)):
         sent = at_bit(p, A)
         assert len(sent) == 15 + (p + 7) // 8
-        s.hunt(0, sent, A, room=24)
+        s.hunt(0, sent, A, room=24, where=(p, left))
     s.say("hunt, 0: every other position, zeros before the preamble; then every position, ones before it")
     for p in range(65):
         if p not in (0, 1, 8, 64):
-            s.hunt(0, at_bit(p, A[:4]), A[:4], room=8)
+            s.hunt(0, at_bit(p, A[:4]), A[:4], room=8, where=(p, -p % 8))
     for p in range(1, 65):
-        s.hunt(0, at_bit(p, A[:3], 1), A[:3], room=8)
+        s.hunt(0, at_bit(p, A[:3], 1), A[:3], room=8, where=(p, -p % 8))
+    s.say("hunt, 0: 'the number of bits left after the last whole byte': a last byte that is not whole, cut off or sent, for each of its lengths")
+    for p in (57, 58, 59, 60, 61, 62, 63):
+        sent = at_bit(p, A[:3])
+        s.hunt(0, sent, A[:3], room=8, where=(p, 64 - p))
+        s.hunt(0, sent[:-1], A[:2], room=8, where=(p, 64 - p))
     s.say("hunt, 5: 'without a position': p = 65, 66, 72; zeros; ones; nothing; B2 cut short")
     for p in (65, 66, 71, 72):
         s.hunt(5, at_bit(p, A))
@@ -1133,13 +1146,13 @@ def cases_hunt(s):
         s.hunt(5, sent)
     s.hunt(5, "00" * 8 + "32")
     s.say("hunt, 0: eight bits are enough, at p = 0 and at p = 64")
-    s.hunt(0, "B2", "B2", room=1)
-    s.hunt(0, "00" * 8 + "B2", "B2", room=1)
-    s.hunt(0, "64 01", "B2", room=1)
+    s.hunt(0, "B2", "B2", room=1, where=(0, 0))
+    s.hunt(0, "00" * 8 + "B2", "B2", room=1, where=(64, 0))
+    s.hunt(0, "64 01", "B2", room=1, where=(1, 7))
     s.say("hunt, 0: the first of two positions: 0 and 8; 3 and 16")
-    s.hunt(0, "B2 B2", "B2 B2")
-    s.hunt(0, "90 05 B2", "B2 40")
-    s.say("hunt, 15: 'output .. shorter than needed'; 'Hunt: 5, 15'")
+    s.hunt(0, "B2 B2", "B2 B2", where=(0, 0))
+    s.hunt(0, "90 05 B2", "B2 40", where=(3, 5))
+    s.say("hunt, 15: 'output .. shorter than needed'; 'Hunt: 5, 15'; p and left are 'both 0 on a refusal', though the position is there")
     s.hunt(15, A, room=14)
     s.hunt(15, A, room=0)
     s.hunt(15, at_bit(3, A), room=14)

@@ -33,6 +33,7 @@ def cases():
 
     yield "empty", b""
     yield "one-byte", b"\1"
+    yield "one-byte-mode-3", b"\3"
     yield from case("stream-a", 1, 0, A)
     # every mode, and the lead-in of each
     for mode in (2, 5):
@@ -58,6 +59,7 @@ def cases():
     yield from case("kind-1-nothing", 1, 1, b"")
     yield from case("kind-1-mode-7", 7, 1, A)
     yield from case("kind-1-mode-3", 3, 1, A)
+    yield from case("kind-255-mode-4", 4, 255, at_bit(63, A))
     yield from case("kind-1-mode-3-no-preamble", 3, 1, b"\0\0\0")
     yield from case("kind-1-mode-3-nothing", 3, 1, b"")
     # number 5
@@ -104,9 +106,11 @@ def cases():
     yield from case("hunt-64-01", 3, 0, bytes.fromhex("64 01"))
     yield from case("hunt-part-byte", 3, 0, at_bit(3, A)[:-1])
     yield from case("hunt-part-preamble", 3, 0, b"\0\x64")
+    yield from case("hunt-later-bytes", 3, 0, at_bit(3, A + A))
     yield from case("hunt-zeros", 4, 0, bytes(200))
     yield from case("hunt-refused", 3, 0, at_bit(5, stream(window(9, 11), last=PREAMBLE)))
     yield from case("hunt-stopped", 4, 10, at_bit(2, stream(window(0, 16380))[:-4000]))
+    yield from case("hunt-63-windows-255", 4, 10, at_bit(63, stream(*[window(16380 - i, 16380 - i // 2) for i in range(255)])))
     # lengths
     three = [window(0, 16380)] * 3
     rest = 65534 - 7 - 3 * 16386 - 5
@@ -118,6 +122,7 @@ def cases():
     yield from case("bytes-65536-serial", 3, 10, at_bit(1, longest[:-1]))
     yield from case("bytes-65536-serial-zeros", 3, 0, bytes(65534))
     yield from case("bytes-65537-zeros", 1, 0, bytes(65535))
+    yield from case("bytes-65537-serial", 3, 10, at_bit(1, longest))
     yield from case("bytes-65537-bad-kind", 1, 1, bytes(65535))
     yield from case("bytes-200000", 1, 0, A + bytes(200000))
 

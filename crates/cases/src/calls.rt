@@ -119,9 +119,13 @@ fn fed(f: Fed) -> Chain {
     c
 }
 
-fn written(number: u8, length: usize) {
+fn length(n: usize) {
+    show::long((n % 4294967296) as u32);
+}
+
+fn written(number: u8, n: usize) {
     show::byte(number);
-    show::long((length % 4294967296) as u32);
+    length(n);
 }
 
 fn write(call: Call, args: &[u8], starts: &mut [u16], ends: &mut [u16], out: &mut [u8]) {
@@ -206,8 +210,11 @@ pub fn on_output(call: Call, c: Chain, mem: &[u8], args: &[u8], out: &mut [u8]) 
             written(w.number, w.length);
         }
         b'h' => {
-            let w = hunt::hunt(args, out);
-            written(w.number, w.length);
+            let h = hunt::hunt(args, out);
+            show::byte(h.number);
+            show::byte(h.p);
+            show::byte(h.left);
+            length(h.length);
         }
         b'w' | b'l' => {
             on_tables(call, args, out);

@@ -1,11 +1,12 @@
--- Start here: each sentence of the owner's three demands, and each loader that they shut out, with the statement that says it and the
--- theorem that has it. The statements stand in specs/; that `ours` is the code, Promised has for each call. Assumes nothing.
+-- Start here: each sentence of the owner's three demands, the requests that have landed, and each loader that these shut out, with the statement
+-- that says it and the theorem that has it. The statements stand in specs/; that `ours` is the code, Promised has for each call. Assumes nothing.
 use Prim.Native.Nat.{ℕ, _≤_}
 use mathlib.Core.Logic.{_⊎_}
 use mathlib.Core.Path.{_≡_}
 use mathlib.Core.List.{List, _∷_, _++_}
 use lib.ListN.{length, take}
 use Rattle.chain.specs.declared.Chain.{Chain}
+use Rattle.hunt.specs.declared.Hunted.{Hunted}
 use Rattle.hunt.specs.Hunt.{nowhere, foundAt, huntedBytes}
 use Rattle.hunt.proofs.CutShort.{hunt-cut}
 use Rattle.grammar.specs.Sent.{bytesOf}
@@ -16,16 +17,19 @@ use Rattle.demands.specs.Demand1.{Demand1}
 use Rattle.demands.specs.Demand2.{joined, ran}
 use Rattle.demands.specs.Second.{Demand2}
 use Rattle.demands.specs.Demand3.{Demand3}
+use Rattle.demands.specs.WherePreamble.{Where, SaysWhere}
 use Rattle.demands.specs.Ours.{ours}
 use Rattle.demands.specs.Cases.{table, All}
-use Rattle.demands.specs.Wrong.{constant, idle, taking, undoing, eager, exclusiveEnd, plainCount, barring, checkWrites, earlierWins, shortClosing, offsetsFromFirst}
+use Rattle.demands.specs.Wrong.{constant, idle, taking, undoing, eager, exclusiveEnd, plainCount, barring, checkWrites, earlierWins, shortClosing, offsetsFromFirst, leftBefore, fromOne, toldRefused}
 use Rattle.demands.proofs.Demand1.{demand1}
 use Rattle.demands.proofs.Demand2.{demand2}
 use Rattle.demands.proofs.loads.TwelveCases.{twelve}
 use Rattle.demands.proofs.stops.StopsRight.{demand3}
+use Rattle.demands.proofs.WherePreamble.{where-began, where-only}
 use Rattle.demands.proofs.wrong.Shut.{constant-out, idle-out, taken-out, per-slice-out}
 use Rattle.demands.proofs.wrong.Eager.{eager-out}
 use Rattle.demands.proofs.wrong.Readings.{exclusive-end-out, plain-count-out, barring-out, check-writes-out, earlier-wins-out, undoing-out, short-closing-out, offsets-out}
+use Rattle.demands.proofs.wrong.HuntFigures.{left-before-out, from-one-out, told-refused-out}
 
 -- 1. 'It takes every byte string, mode, chain and saved place. Public calls ask nothing of the caller. Each refusal has its number in
 -- document 01, given exactly under the condition there, and the state, memory and output it leaves are fixed.'
@@ -49,6 +53,14 @@ every-stop = demand3
 pub serial-stop : (s : List ℕ) (k : ℕ) → k ≤ length s
     → (foundAt (take k s) ≡ nowhere) ⊎ (huntedBytes (take k s) ≡ take (length (huntedBytes (take k s))) (huntedBytes s))
 serial-stop s k l = hunt-cut s k l
+
+-- Document 02, wish 4: 'The hunt shall also answer p and the number of bits left after the last whole byte, both 0 on a refusal.'
+pub preamble-began : SaysWhere ours
+preamble-began = where-began
+
+-- and what is said leaves a loader no other p, left or length
+pub began-once : (s : List ℕ) (g h : Hunted) → Where s g → Where s h → (g .p ≡ h .p) × (g .left ≡ h .left) × (g .length ≡ h .length)
+began-once = where-only
 
 -- The twelve cases of the paper, one table
 pub twelve-cases : All 1 table
@@ -79,6 +91,10 @@ pub record ShutOut : Type 0 where
   -- closing bytes one short; offsets from the stream's first byte
   pub closing-short : Demand3 shortClosing → ⊥
   pub offsets-first : Demand2 offsetsFromFirst → ⊥
+  -- the hunt: the bits before the preamble for those left; positions from 1; a position with a refusal
+  pub left-before : SaysWhere leftBefore → ⊥
+  pub from-one : SaysWhere fromOne → ⊥
+  pub told-refused : SaysWhere toldRefused → ⊥
 
 pub shut-out : ShutOut
 shut-out =
@@ -95,4 +111,7 @@ shut-out =
       earlier-wins = λ d. earlier-wins-out (d .a);
       closing-short = short-closing-out;
       offsets-first = λ d. offsets-out (d .b);
+      left-before = left-before-out;
+      from-one = from-one-out;
+      told-refused = told-refused-out;
     }

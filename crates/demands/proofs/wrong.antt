@@ -3,3 +3,4 @@ pub mod Shut
 pub mod Eager
 pub mod Readings
 pub mod RefusedChecks
+pub mod HuntFigures

@@ -1,5 +1,5 @@
 -- Document 01's twelve cases, one table: each row is computed on the definitions that the contracts cite. Assumes nothing.
-use Prim.Native.Nat.{ℕ, suc, _+_}
+use Prim.Native.Nat.{ℕ, suc}
 use mathlib.Core.Bool.{Bool, true, false, _&&_}
 use mathlib.Core.List.{List, [], _∷_, _++_}
 use lib.Dec.{eqb}
@@ -9,7 +9,6 @@ use Rattle.chain.specs.declared.Chain.{Chain}
 use Rattle.chain.specs.Paper.{done}
 use Rattle.chain.specs.Kinds.{sizeOf}
 use Rattle.chain.specs.Calls.{newOf, resetOf, resetMemory}
-use Rattle.hunt.specs.Hunt.{foundAt}
 use Rattle.demands.specs.Loader.{AfterSlice}
 use Rattle.demands.specs.Demand3.{load}
 use Rattle.demands.specs.Ours.{ours}
@@ -20,8 +19,8 @@ pub data Case : Type 0 where
   loads : List (List ℕ) → ℕ → ℕ → List ℕ → ℕ → Case
   -- a kind, a stream, how many of its bytes were fed, and the closing bytes
   closes : ℕ → List ℕ → ℕ → List ℕ → Case
-  -- bytes, the position that the hunt finds, and the bytes that it writes
-  hunts : List ℕ → ℕ → List ℕ → Case
+  -- bytes, the position that the hunt finds, the bits that it leaves, and the bytes that it writes
+  hunts : List ℕ → ℕ → ℕ → List ℕ → Case
 
 -- one device of that kind, its cells set; and what a reset makes of both
 abbrev pub made : ℕ → Chain
@@ -62,9 +61,13 @@ holds (closes kind s k bytes) =
     let a = load ours 1 (fresh kind) (wiped kind) (take k s) in
     let w = ours .closing (a .fed .chain) (a .memory) (lent 9) in
     eqb (w .written .number) done && eqb (w .written .length) (length bytes) && same (w .out) (sets (lent 9) 0 bytes)
-holds (hunts s p bytes) =
+holds (hunts s p left bytes) =
     let h = ours .hunt s (lent 9) in
-    eqb (foundAt s) p && eqb (h .hunted .number) done && eqb (h .hunted .length) (length bytes) && same (h .out) (sets (lent 9) 0 bytes)
+    eqb (h .hunted .number) done
+    && eqb (h .hunted .p) p
+    && eqb (h .hunted .left) left
+    && eqb (h .hunted .length) (length bytes)
+    && same (h .out) (sets (lent 9) 0 bytes)
 
 -- a stream's head with its count byte, and a window's
 abbrev pub head : ℕ → List ℕ
@@ -81,7 +84,7 @@ zeros = replicate 52 0
 
 -- 1: A sets cells 9, 10, 11. 2: two windows, 9..11 as in A, then 10..10 = 44. 3: no windows. 4: end 51 taken, 5: end 52 gives 12.
 -- 6: start 52 gives 11. 7: start 11, end 9 gives 12. 8: control 10 hex, then a second run: 6 at its first byte.
--- 9: A stopped after 13 bytes. 10: after 8. 11: kind 2, after 8. 12: hunt over 64 01
+-- 9: A stopped after 13 bytes. 10: after 8. 11: kind 2, after 8. 12: hunt over 64 01, p = 1
 abbrev pub table : List Case
 table =
     loads (streamA ∷ []) 0 15 (sets zeros 9 (0x11 ∷ 0x22 ∷ 0x33 ∷ [])) 0
@@ -95,7 +98,7 @@ table =
     ∷ closes 0 streamA 13 (0x00 ∷ 0x4d ∷ [])
     ∷ closes 0 streamA 8 (0xff ∷ [])
     ∷ closes 2 streamA 8 (0xff ∷ 0xff ∷ 0xff ∷ [])
-    ∷ hunts (0x64 ∷ 0x01 ∷ []) 1 (0xb2 ∷ [])
+    ∷ hunts (0x64 ∷ 0x01 ∷ []) 1 7 (0xb2 ∷ [])
     ∷ []
 
 -- a row that does not hold is named in the refusal, as in `Fails 5`

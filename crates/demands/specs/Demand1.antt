@@ -13,6 +13,7 @@ use Rattle.machine.specs.declared.Fed.{Fed}
 use Rattle.machine.specs.Calls.{startOf, sliceOf, sliceMemory, dropOf}
 use Rattle.saved.specs.Calls.{saveOf, saveOutput, pickUpOf}
 use Rattle.closing.specs.Calls.{closingOf, closingOutput}
+use Rattle.hunt.specs.declared.Hunted.{Hunted}
 use Rattle.hunt.specs.Hunt.{huntOf, huntOut}
 use Rattle.writer.specs.Write.{writeOf, writeOutput}
 use Rattle.lister.specs.declared.Listed.{Listed}
@@ -77,6 +78,12 @@ pub record ListRefused (starts ends offsets : List ℕ) (r : Listed) (starts′ 
   pub ends-kept : ends′ ≡ ends
   pub offsets-kept : offsets′ ≡ offsets
 
+-- a refused hunt: p, the bits left and the length are 0, and the output is as lent
+pub record HuntRefused (out : List ℕ) (h : Hunted) (out′ : List ℕ) : Type 0 where
+  pub p : h .p ≡ 0
+  pub left : h .left ≡ 0
+  pub nothing : NothingWritten (h .length) out out′
+
 pub record Refusals : Type 0 where
   -- a refused new state is all zero
   pub new : (count : ℕ) (kinds m : List ℕ) → newOf count kinds (length m) .number ≢ done → newOf count kinds (length m) .chain ≡ noChain
@@ -98,7 +105,7 @@ pub record Refusals : Type 0 where
   pub save : (c : Chain) (m out : List ℕ) → saveOf c (length m) (length out) .number ≢ done
       → NothingWritten (saveOf c (length m) (length out) .length) out (saveOutput c (length m) out)
   pub pick-up : (c : Chain) (m s : List ℕ) → pickUpOf c (length m) s .number ≢ done → pickUpOf c (length m) s .chain ≡ c
-  pub hunt : (s out : List ℕ) → huntOf s (length out) .number ≢ done → NothingWritten (huntOf s (length out) .length) out (huntOut s out)
+  pub hunt : (s out : List ℕ) → huntOf s (length out) .number ≢ done → HuntRefused out (huntOf s (length out)) (huntOut s out)
   pub write : (kind mode control : ℕ) (address starts ends bytes out : List ℕ)
       → writeOf kind mode control address starts ends bytes (length out) .number ≢ done
       → NothingWritten (writeOf kind mode control address starts ends bytes (length out) .length) out (writeOutput kind mode control address starts ends bytes out)

@@ -4,6 +4,7 @@ pub mod ByteTable
 pub mod ListTable
 pub mod Demand1
 pub mod Loader
+pub mod WherePreamble
 pub mod Demand2
 pub mod Demand3
 pub mod Files

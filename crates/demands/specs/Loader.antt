@@ -58,6 +58,9 @@ with·closing l f = record { start = l .start; slice = l .slice; closing = f; wr
 abbrev pub with·list : Loader → (ℕ → ℕ → List ℕ → List ℕ → List ℕ → List ℕ → AfterList) → Loader
 with·list l f = record { start = l .start; slice = l .slice; closing = l .closing; write = l .write; list = f; hunt = l .hunt }
 
+abbrev pub with·hunt : Loader → (List ℕ → List ℕ → AfterHunt) → Loader
+with·hunt l f = record { start = l .start; slice = l .slice; closing = l .closing; write = l .write; list = l .list; hunt = f }
+
 -- a lent chain that no number refuses, with no run open: eight kinds and registers, and bytes, as the types of the code say
 pub record Idle (c : Chain) (m : List ℕ) : Type 0 where
   pub kinds : length (c .kinds) ≡ 8

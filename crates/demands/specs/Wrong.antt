@@ -1,19 +1,22 @@
 -- Loaders that the demands shut out: ours, with one call replaced. Assumes nothing.
-use Prim.Native.Nat.{ℕ, _+_, _-_}
+use Prim.Native.Nat.{ℕ, _+_, _-_, _%_}
 use mathlib.Core.Bool.{_&&_, _||_, not}
 use mathlib.Core.List.{List, [], _∷_}
 use lib.Dec.{eqb}
 use lib.ListN.{length, getD}
 use Rattle.chain.specs.declared.Chain.{Chain}
 use Rattle.chain.specs.declared.Place.{Place}
-use Rattle.chain.specs.Paper.{at·address, at·count, at·null, at·end-low, at·data, at·check, writing, two-preambles, done, barred, no-check, more, B4}
+use Rattle.chain.specs.Paper.{at·address, at·count, at·null, at·end-low, at·data, at·check, writing, two-preambles, done, barred, no-check, too-short, more, B4}
 use Rattle.chain.specs.Rules.{pick}
+use Rattle.chain.specs.Output.{onDone}
 use Rattle.chain.specs.Set.{with·check, with·awaited, with·left, with·end, with·place}
 use Rattle.chain.specs.State.{feedNumber}
 use Rattle.awaited.specs.Byte.{awaits}
 use Rattle.machine.specs.Run.{writes, addressOf, ended, Run, run, stepOf}
 use Rattle.machine.specs.Calls.{answered, fedOf}
-use Rattle.demands.specs.Loader.{Loader, AfterSlice, with·slice, with·closing, with·list}
+use Rattle.hunt.specs.declared.Hunted.{Hunted}
+use Rattle.hunt.specs.Hunt.{foundAt}
+use Rattle.demands.specs.Loader.{Loader, AfterSlice, with·slice, with·closing, with·list, with·hunt}
 use Rattle.demands.specs.Ours.{ours}
 
 -- ours, with what a slice leaves altered
@@ -116,3 +119,25 @@ offsetsFromFirst =
       ends = a .ends;
       offsets = pick (eqb mode two-preambles) (oneMore (a .offsets)) (a .offsets);
     })
+
+-- ---- the hunt: ours, with other figures
+
+abbrev pub figuring : (List ℕ → Hunted → ℕ) → (List ℕ → Hunted → ℕ) → Loader
+figuring p left =
+    with·hunt ours
+    (λ s out.
+    let a = ours .hunt s out in
+    let h = a .hunted in
+    record { hunted = record { number = h .number; p = p s h; left = left s h; length = h .length }; out = a .out })
+
+-- the bits before the preamble in the byte where it begins, taken for those left
+abbrev pub leftBefore : Loader
+leftBefore = figuring (λ s h. h .p) (λ s h. h .p % 8)
+
+-- positions counted from 1
+abbrev pub fromOne : Loader
+fromOne = figuring (λ s h. onDone (h .number) (h .p + 1)) (λ s h. h .left)
+
+-- the position told though the output was too short
+abbrev pub toldRefused : Loader
+toldRefused = figuring (λ s h. pick (eqb (h .number) too-short) (foundAt s) (h .p)) (λ s h. h .left)

@@ -1,12 +1,12 @@
 -- Bytes one after another: how many, the loop that writes them, and those at whole bytes. Assumes nothing.
 use mathlib.Core.Path.{_≡_, refl, sym, ap, ap₂, _∙_}
 use mathlib.Core.List.{List, _∷_}
-use Prim.Native.Nat.{ℕ, zero, suc, _+_, _-_, _*_, _/_, _^_, _<_, _≤_}
+use Prim.Native.Nat.{ℕ, zero, suc, _+_, _-_, _*_, _/_, _%_, _^_, _<_, _≤_}
 use native.Mathlib.Numerals.{add-one}
 use native.Mathlib.Omega.{arith}
 use lib.ListN.{length, getD, set, take, drop, length-drop}
 use lib.Seq.{sets, drop-cons, take-all}
-use Rattle.hunt.specs.Bits.{byteAt, bytesFrom, wholeFrom}
+use Rattle.hunt.specs.Bits.{byteAt, bytesFrom, wholeFrom, leftFrom}
 use Rattle.hunt.proofs.Windows.{byte-whole}
 
 pub length-bytes : (s : List ℕ) (p n : ℕ) → length (bytesFrom s p n) ≡ n
@@ -36,6 +36,11 @@ bytes-done s out p n i h =
 pub whole-is : (s : List ℕ) (p : ℕ) → length s - (p + 7) / 8 ≡ wholeFrom s p
 unfolding wholeFrom
 whole-is s p = omega arith
+
+-- and the bits after the last of them, where a byte stands at p
+pub left-is : (s : List ℕ) (p : ℕ) → p + 8 ≤ 8 * length s → (8 - p % 8) % 8 ≡ leftFrom s p
+unfolding leftFrom
+left-is s p h = omega arith
 
 module _ (s : List ℕ) (bytes : (i : ℕ) → getD s i 0 < 2 ^ 8) where
   -- at whole bytes they are a part of the slice

@@ -24,3 +24,7 @@ bytesFrom s p (suc n) = byteAt s p ∷ bytesFrom s (p + 8) n
 -- how many whole bytes start at p, one after another: a last part byte is no whole one
 unfoldable pub wholeFrom : List ℕ → ℕ → ℕ
 wholeFrom s p = (8 * length s - p) / 8
+
+-- and how many bits are left after the last of them
+unfoldable pub leftFrom : List ℕ → ℕ → ℕ
+leftFrom s p = (8 * length s - p) % 8

@@ -7,9 +7,9 @@ use lib.ListN.{length}
 use lib.Dec.{eqb, ltb, leb}
 use Rattle.chain.specs.Paper.{preamble, done, no-preamble, too-short}
 use Rattle.chain.specs.Rules.{pick, Rule, _gives_, firstOf}
-use Rattle.chain.specs.Output.{lengthOf, outputOf}
+use Rattle.chain.specs.Output.{onDone, lengthOf, outputOf}
 use Rattle.hunt.specs.declared.Hunted.{Hunted}
-use Rattle.hunt.specs.Bits.{byteAt, bytesFrom, wholeFrom}
+use Rattle.hunt.specs.Bits.{byteAt, bytesFrom, wholeFrom, leftFrom}
 
 -- eight bits of the slice stand at p and make the preamble
 unfoldable pub beginsAt : List ℕ → ℕ → Bool
@@ -42,11 +42,13 @@ huntRules s room =
 unfoldable pub huntNumber : List ℕ → ℕ → ℕ
 huntNumber s room = firstOf (huntRules s room) done
 
--- the answer, and the output that is left
+-- the answer: on 0 p, the bits left and the length; and the output after the call
 unfoldable pub huntOf : List ℕ → ℕ → Hunted
 huntOf s room =
     record {
       number = huntNumber s room;
+      p = onDone (huntNumber s room) (foundAt s);
+      left = onDone (huntNumber s room) (leftFrom s (foundAt s));
       length = lengthOf (huntNumber s room) (huntedBytes s);
     }
 

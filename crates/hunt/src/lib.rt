@@ -11,10 +11,13 @@ ghost use Rattle.hunt.specs.Hunt.{beginsAt, nowhere, foundAt, Hunt};
 // The hunt takes the positions 0 to 64; this one says that there is none.
 const NOWHERE: usize = 65;
 
-// How much of a lent output was written, 0 where the number is not 0.
+// Where the preamble began, 0 to 64, how many bits are left after the last whole byte, and how many bytes were written; each 0 where the
+// number is not 0.
 #[repr(C)]
 pub struct Hunted {
     pub number: u8,
+    pub p: u8,
+    pub left: u8,
     pub length: usize,
 }
 
@@ -91,6 +94,8 @@ pub fn hunt(s: &[u8], out: &mut [u8]) -> Hunted
     if NOWHERE <= p {
         return Hunted {
             number: NO_PREAMBLE,
+            p: 0,
+            left: 0,
             length: 0,
         };
     }
@@ -98,12 +103,16 @@ pub fn hunt(s: &[u8], out: &mut [u8]) -> Hunted
     if out.len() < n {
         return Hunted {
             number: TOO_SHORT,
+            p: 0,
+            left: 0,
             length: 0,
         };
     }
     fill(s, p, n, out);
     Hunted {
         number: DONE,
+        p: p as u8,
+        left: ((8 - p % 8) % 8) as u8,
         length: n,
     }
 }

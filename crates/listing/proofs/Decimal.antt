@@ -91,8 +91,15 @@ window-line n start end h k l =
     let d = window-digits n start end h k l in
     simp length-append (omega (arith, d .0, d .1, d .2))
 
-pub answer-line : (number taken : ℕ) → number < 2 ^ 8 → taken < 2 ^ 32 → length (answerLine number taken) ≤ 17
+pub answer-line : (number taken : ℕ) → number < 2 ^ 8 → taken < 2 ^ 32 → length (answerLine number taken []) ≤ 17
 unfolding numbersOf
 answer-line number taken h k =
     let d = answer-digits number taken h k in
     simp length-append (omega (arith, d .0, d .1))
+
+-- with two bytes after it
+pub where-line : (number taken p left : ℕ) → number < 2 ^ 8 → taken < 2 ^ 32 → p < 2 ^ 8 → left < 2 ^ 8 → length (answerLine number taken (p ∷ left ∷ [])) ≤ 25
+unfolding numbersOf
+where-line number taken p left h k l m =
+    let d = answer-digits number taken h k in
+    simp length-append (omega (arith, d .0, d .1, decimal-short 2 p (omega arith), decimal-short 2 left (omega arith)))

@@ -11,7 +11,8 @@ use Rattle.lister.specs.Listing.{preambleAt, listedOf, startsOf, endsOf, listed
 use Rattle.lister.proofs.Tables.{lists-leave}
 use Rattle.listing.specs.declared.text.Listing.{Listing}
 use Rattle.listing.specs.Lines.{Puts}
-use Rattle.listing.specs.Program.{most-windows, listerStop, windowLines, answerLine, linesOf, ListedTo}
+use Rattle.listing.specs.Program.{most-windows, listerStop, windowLines, answerLine, linesOf}
+use Rattle.listing.specs.ListedTo.{ListedTo}
 use Rattle.listing.proofs.Putting.{puts-then}
 
 module _ (kind mode : ℕ) (s starts ends offsets : List ℕ) (r : Listed) (starts′ ends′ offsets′ : List ℕ)
@@ -39,7 +40,7 @@ module _ (kind mode : ℕ) (s starts ends offsets : List ℕ) (r : Listed) (star
       }
 
 -- and the last line after them makes the whole text
-pub lines-put : (kind mode : ℕ) (s o x y : List ℕ) (r : Listing) (q : ℕ) → ListedTo kind mode s o r x → Puts (r .at) (answerLine (r .number) (r .taken)) x q y
-    → Puts 0 (linesOf kind mode s (listerStop kind mode s)) o q y
+pub lines-put : (kind mode : ℕ) (s o x y : List ℕ) (r : Listing) (following : List ℕ) (q : ℕ) → ListedTo kind mode s o r x
+    → Puts (r .at) (answerLine (r .number) (r .taken) following) x q y → Puts 0 (linesOf kind mode s (listerStop kind mode s) following) o q y
 unfolding linesOf
-lines-put kind mode s o x y r q d p = puts-then 0 _ _ o x y (r .at) q (d .lines) (rw (d .number, d .taken) at p)
+lines-put kind mode s o x y r following q d p = puts-then 0 _ _ o x y (r .at) q (d .lines) (rw (d .number, d .taken) at p)

@@ -15,7 +15,7 @@ use Rattle.listing.specs.Program.{most-input, answerLine, programLines, 
 use Rattle.listing.proofs.Putting.{puts-long}
 
 module _ (input : List ℕ) where
-  pub too-short : length input < 2 → textOf input ≡ answerLine bad-chain 0
+  pub too-short : length input < 2 → textOf input ≡ answerLine bad-chain 0 []
   unfolding textOf
   too-short h = rw (lt-ltb (length input) 2 h)
 

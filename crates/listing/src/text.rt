@@ -6,12 +6,13 @@ use hunt::hunt;
 use lister::list;
 ghost use mathlib.Core.Path.{_≡_};
 ghost use mathlib.Core.Bool.{true};
-ghost use mathlib.Core.List.{[], _∷_, _++_};
+ghost use mathlib.Core.List.{[], _∷_};
 ghost use Prim.Native.Nat.{_+_, _*_, _≤_, _<_};
 ghost use lib.ListN.{length, take};
 ghost use Rattle.io.specs.Counts.{Counts};
 ghost use Rattle.listing.specs.Lines.{letter·W, space, decimalOf, numbersOf, lineOf, Puts};
-ghost use Rattle.listing.specs.Program.{windowLines, most-input, most-text, serial, programLines, ListedTo, Writes};
+ghost use Rattle.listing.specs.Program.{windowLines, most-input, most-text, serial, programLines, Writes};
+ghost use Rattle.listing.specs.ListedTo.{ListedTo};
 
 // The most bytes of input, mode byte and kind byte among them.
 pub const MOST_INPUT: usize = 65536;
@@ -19,8 +20,8 @@ pub const MOST_INPUT: usize = 65536;
 // The most windows of a stream.
 const MOST_WINDOWS: usize = 255;
 
-// 255 windows' lines of 18 bytes, and a last one of 17.
-pub const MOST_TEXT: usize = 4607;
+// 255 windows' lines of 18 bytes, and a last one of 25.
+pub const MOST_TEXT: usize = 4615;
 
 fn put(b: u8, at: usize, out: &mut [u8]) -> usize
     requires { ⌜ at < length (now out) ⌝ }
@@ -111,23 +112,28 @@ fn listed(kind: u8, mode: u8, given: &[u8], out: &mut [u8]) -> Listing
     }
 }
 
-// Modes 3 and 4: the lister is given the hunted bytes. Kind is tested before the hunt.
+// Modes 3 and 4: the lister is given the hunted bytes, and the last line ends with where they began and the bits left. Kind is tested before the hunt.
 fn hunted(kind: u8, mode: u8, s: &[u8], out: &mut [u8]) -> usize
     requires { ⌜ (serial mode ≡ true) × (length (now s) ≤ most-input) × (most-text ≤ length (now out)) ⌝ }
     ensures { λ r. ⌜ Puts 0 (programLines kind mode (now (s .entry))) (now (out .entry)) r (now (out .exit)) ⌝ }
     ensures { λ r. ⌜ r ≤ most-text ⌝ }
 {
     if size_of(kind) == 0 {
-        return line(b'A', &[BAD_CHAIN as u32, 0], 0, out);
+        return line(b'A', &[BAD_CHAIN as u32, 0, 0, 0], 0, out);
     }
     let mut found = [0u8; MOST_INPUT];
     let h = hunt(s, &mut found);
     if h.number != DONE {
-        return line(b'A', &[NO_PREAMBLE as u32, 0], 0, out);
+        return line(b'A', &[NO_PREAMBLE as u32, 0, 0, 0], 0, out);
     }
     let n = h.length;
     let r = listed(kind, mode, &found[..n], out);
-    line(b'A', &[r.number as u32, r.taken], r.at, out)
+    line(
+        b'A',
+        &[r.number as u32, r.taken, h.p as u32, h.left as u32],
+        r.at,
+        out,
+    )
 }
 
 // The text for an input, which is mode byte, kind byte and stream; its length is answered.

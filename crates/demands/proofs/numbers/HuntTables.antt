@@ -15,7 +15,7 @@ use Rattle.chain.proofs.Means.{Means, m-and, m-le, m-eq, m-none}
 use Rattle.chain.proofs.Table.{table, table-reads}
 use Rattle.demands.specs.Table.{MakesPreamble, huntTable}
 
-makes : (s : List ℕ) (p : ℕ) → Means (beginsAt s p) true (MakesPreamble s p)
+pub makes : (s : List ℕ) (p : ℕ) → Means (beginsAt s p) true (MakesPreamble s p)
 unfolding beginsAt
 makes s p = m-and (m-le (p + 8) (8 * length s)) (m-eq (byteAt s p) preamble)
 

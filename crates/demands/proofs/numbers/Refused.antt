@@ -14,7 +14,7 @@ use Rattle.chain.specs.State.{openNumber, feedNumber}
 use Rattle.chain.specs.Calls.{noChain, chainNumber, newOf, resetOf, resetMemory}
 use Rattle.chain.specs.Output.{NothingWritten}
 use Rattle.chain.specs.Table.{Running}
-use Rattle.chain.proofs.Output.{nothing-written}
+use Rattle.chain.proofs.Output.{nothing-written, refused-zero}
 use Rattle.chain.proofs.Table.{feed-takes}
 use Rattle.machine.specs.declared.Fed.{Fed}
 use Rattle.awaited.specs.Byte.{numberOf}
@@ -27,12 +27,13 @@ use Rattle.saved.specs.Layout.{savedBytes}
 use Rattle.saved.specs.Calls.{saveNumber, saveOf, saveOutput, pickUpNumber, pickUpOf}
 use Rattle.closing.specs.Closing.{closingBytes}
 use Rattle.closing.specs.Calls.{writtenNumber, closingOf, closingOutput}
-use Rattle.hunt.specs.Hunt.{huntedBytes, huntNumber, huntOf, huntOut}
+use Rattle.hunt.specs.Bits.{leftFrom}
+use Rattle.hunt.specs.Hunt.{foundAt, huntedBytes, huntNumber, huntOf, huntOut}
 use Rattle.writer.specs.Stream.{streamOf}
 use Rattle.writer.specs.Write.{writeNumber, writeOf, writeOutput}
 use Rattle.chain.specs.Bytes.{Bytes}
 use Rattle.demands.specs.ByteTable.{sliceNumber}
-use Rattle.demands.specs.Demand1.{AsLent, Ended, EndedAt, ByteEnded}
+use Rattle.demands.specs.Demand1.{AsLent, Ended, EndedAt, ByteEnded, HuntRefused}
 use Rattle.demands.proofs.numbers.ByteTables.{run-one}
 use Rattle.demands.proofs.numbers.SliceTables.{at-byte}
 
@@ -75,9 +76,14 @@ pub closing-refused : (c : Chain) (m out : List ℕ) → closingOf c m (length o
     → NothingWritten (closingOf c m (length out) .length) out (closingOutput c m out)
 closing-refused c m out = nothing-written (writtenNumber c m (length out)) (closingBytes c m) out
 
-pub hunt-refused : (s out : List ℕ) → huntOf s (length out) .number ≢ done → NothingWritten (huntOf s (length out) .length) out (huntOut s out)
+pub hunt-refused : (s out : List ℕ) → huntOf s (length out) .number ≢ done → HuntRefused out (huntOf s (length out)) (huntOut s out)
 unfolding huntOf huntOut
-hunt-refused s out = nothing-written (huntNumber s (length out)) (huntedBytes s) out
+hunt-refused s out z =
+    record {
+      p = refused-zero (huntNumber s (length out)) (foundAt s) z;
+      left = refused-zero (huntNumber s (length out)) (leftFrom s (foundAt s)) z;
+      nothing = nothing-written (huntNumber s (length out)) (huntedBytes s) out z;
+    }
 
 pub write-refused : (kind mode control : ℕ) (address starts ends bytes out : List ℕ)
     → writeOf kind mode control address starts ends bytes (length out) .number ≢ done

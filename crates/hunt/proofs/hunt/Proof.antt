@@ -1,6 +1,8 @@
 -- `hunt::hunt` meets its contract: a law for each of its three ways to answer. Assumes nothing.
+use mathlib.Core.Path.{refl}
 use borrow.Author.Needs.{needs}
 use native.Mathlib.Omega.{arith}
+use Rattle.hunt.proofs.Bytes.{left-is}
 use Rattle.hunt.proofs.Answers.{found-in, hunt-none, hunt-short, hunt-written}
 use Rattle.hunt.proofs.hunt.Statement.{statement}
 use Rattle.hunt.proofs.hunt.Tie as tie
@@ -34,9 +36,10 @@ returns-3 c =
     let entry = at-find .before .before .before in
     let a = entry .args in
     let f = at-find .find in
-    hunt-written (a .s .now) (a .out .now) (f .result) (f .ensures .0) (omega arith) _ (omega arith) (c .before .before .fill .ensures)
+    let left = left-is (a .s .now) (f .result) (found-in (a .s .now) (f .result) (f .ensures .0) (omega arith)) in
+    hunt-written (a .s .now) (a .out .now) (f .result) (f .ensures .0) (omega arith) _ _ _ (omega arith) refl left (c .before .before .fill .ensures)
 
 pub hunt-spec : {M : Type 1} → statement M
 hunt-spec =
     tie.close (tie.spec (search needs) returns (search needs) sub-n returns-2 fill-requires (search needs)
-    returns-3)
+    (search needs) (search needs) (search needs) returns-3)

@@ -1,5 +1,6 @@
 -- `text::text` meets its contract: a law for each length of the input. Assumes nothing.
 use mathlib.Core.Path.{_∙_}
+use mathlib.Core.List.{[]}
 use borrow.Author.Needs.{needs}
 use native.Mathlib.Omega.{arith}
 use Prim.Native.Nat.{_<_, _^_}
@@ -57,7 +58,7 @@ returns-4 c =
     let n : l .result .number < 2 ^ 8 = search needs in
     let t : l .result .taken < 2 ^ 32 = search needs in
     writes (a .input .now) _ (a .out .now) _ _ (taken (a .input .now) (search needs) (search needs) ∙ way-plain _ _ _ (at-if3 .if3 .left))
-    (lines-put _ _ _ (a .out .now) _ _ (l .result) _ (l .ensures) p)
+    (lines-put _ _ _ (a .out .now) _ _ (l .result) [] _ (l .ensures) p)
     (omega (arith, p .stops, l .ensures .short, answer-line (l .result .number) (l .result .taken) n t, c .before .line-arg6 .given .0 .1))
 
 pub text-spec : {M : Type 1} → statement M
