@@ -23,14 +23,15 @@ ghost use Rattle.closing.specs.Closing.{window, afterStart, endLow, afte
 ghost use Rattle.closing.specs.Calls.{Closing};
 ghost use Rattle.closing.specs.Put.{Put};
 
-// The lead, then the present cells from first to last, then the tail.
+// The lead, then the present cells from first to last, then the tail. Memory is lent anew: the compiler then passes the slice itself, not
+// its address.
 fn put_window(c: Chain, mem: &[u8], lead: &[u8], first: u16, last: u16, out: &mut [u8]) -> Written
     requires { ⌜ length (now lead) ≤ 1 ⌝ }
     ensures { λ r. ⌜ Put (now (lead .entry) ++ window c (now (mem .entry)) first last) (now (out .entry)) r (now (out .exit)) ⌝ }
 {
     let ks = c.kinds;
     let at = base_of(ks, c.place.device) + first as usize;
-    let cells = part(mem, at, width(first, last));
+    let cells = part(&mem[0..], at, width(first, last));
     if 1 < c.place.left {
         return put_three(out, lead, cells, &[0x00, 0xff, 0xff]);
     }

@@ -42,6 +42,10 @@ run-front c m s k r e =
     ∙ run-append (take k s) (drop k s) (run c m more)
     ∙ ap (λ (x : Run). runOf x (drop k s)) e
 
+-- what is lent from byte i on is the rest; from 0 on, the slice itself
+pub lent-rest : (s : List ℕ) (i : ℕ) → take (length s - i) (drop i s) ≡ drop i s
+lent-rest s i = take-all (length s - i) (drop i s) (omega (arith, length-drop i s))
+
 -- a lent part of k bytes has k
 pub part-length : (s : List ℕ) (i k : ℕ) → i + k ≤ length s → length (take (i + k - i) (drop i s)) ≡ k
 part-length s i k h = length-take-le (i + k - i) (drop i s) (omega (arith, length-drop i s)) ∙ omega arith
@@ -70,6 +74,5 @@ module _ (c : Chain) (m s : List ℕ) (i : ℕ) where
   pub run-rest : (u : ℕ) (r : Run) → runOf (run c m more) (take (length s - i) (drop i s)) ≡ runOf r (drop u (take (length s - i) (drop i s)))
       → runOf (run c m more) (drop i s) ≡ runOf r (drop (i + u) s)
   run-rest u r e =
-      let whole : take (length s - i) (drop i s) ≡ drop i s = take-all (length s - i) (drop i s) (omega (arith, length-drop i s)) in
-      let f : runOf (run c m more) (drop i s) ≡ runOf r (drop u (drop i s)) = rw whole at e in
+      let f : runOf (run c m more) (drop i s) ≡ runOf r (drop u (drop i s)) = rw (lent-rest s i) at e in
       f ∙ ap (runOf r) (drop-drop u i s)

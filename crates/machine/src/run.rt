@@ -226,7 +226,9 @@ fn cut(c: Chain, mem: &mut [u8], base: usize, size: u16, s: &[u8]) -> Front
 }
 
 // Blocks from the front of a slice: what is left of an open window, whole windows, and of one that the slice cuts what there is. The step
-// is not in here, so that the run's device, its size and where its memory begins are found once.
+// is not in here, so that the run's device, its size and where its memory begins are found once. The chain is put together anew from its
+// fields, and the slice lent anew: the bytes between the fields are then not carried along, and the compiler passes the slice itself, not
+// its address.
 fn blocks(c: Chain, mem: &mut [u8], s: &[u8]) -> Front
     ensures { λ r. ⌜ r .used ≤ length (now (s .entry)) ⌝ }
     ensures { λ r. ⌜ runOf (run c (now (mem .entry)) more) (now (s .entry)) ≡ runOf (run (r .chain) (now (mem .exit)) more) (drop (r .used) (now (s .entry))) ⌝ }
@@ -234,7 +236,15 @@ fn blocks(c: Chain, mem: &mut [u8], s: &[u8]) -> Front
     let ks = c.kinds;
     let size = size_here(c);
     let base = base_of(ks, c.place.device);
-    let f = rest(c, mem, base, s);
+    let rs = c.registers;
+    let p = c.place;
+    let b = Chain {
+        count: c.count,
+        kinds: ks,
+        registers: rs,
+        place: p,
+    };
+    let f = rest(b, mem, base, &s[0..]);
     let i = f.used;
     let g = windows(f.chain, mem, base, size, &s[i..]);
     let j = i + g.used;
@@ -255,15 +265,27 @@ fn bulky(c: Chain, n: usize) -> bool {
 
 // Bytes of an open run, up to its end: blocks, and between them byte by byte. The step is called once here, so that it is compiled into
 // the loop; `blocks` is called twice, so that it is not, and with a copy, so that the chain itself stays in the processor's registers.
+// Both calls have the copy and what they answer in one place: each variable of its own would be stack of its own. The chain is put together
+// from its fields, as in `blocks`.
 pub fn feed(c: Chain, mem: &mut [u8], s: &[u8]) -> Made
     ensures { λ r. ⌜ runOf (run c (now (mem .entry)) more) (now (s .entry)) ≡ run (r .chain) (now (mem .exit)) (r .number) ⌝ }
 {
     let n = s.len();
-    let mut d = c;
+    let ks = c.kinds;
+    let rs = c.registers;
+    let p = c.place;
+    let mut d = Chain {
+        count: c.count,
+        kinds: ks,
+        registers: rs,
+        place: p,
+    };
     let mut i: usize = 0;
+    let mut lent: Chain;
+    let mut f: Front;
     if bulky(c, n) {
-        let lent = c;
-        let f = blocks(lent, mem, s);
+        lent = c;
+        f = blocks(lent, mem, s);
         d = f.chain;
         i = f.used;
     }
@@ -276,8 +298,8 @@ pub fn feed(c: Chain, mem: &mut [u8], s: &[u8]) -> Made
         }
         d = r.chain;
         if bulky(d, n - i) {
-            let lent = d;
-            let f = blocks(lent, mem, &s[i..]);
+            lent = d;
+            f = blocks(lent, mem, &s[i..]);
             d = f.chain;
             i += f.used;
         }

@@ -24,8 +24,8 @@ abbrev μ-loop : tie.MeasureT-loop
 
 -- before the loop: the slice's front was offered to blocks, or not
 before-loop : (c : lts.Joined1 (bulky-reads.Asked, bulky-reads.Learnt, blocks-reads.Asked, blocks-reads.Learnt, step-reads.Asked, step-reads.Learnt) reads.Pre reads.Post Inv-loop μ-loop)
-    → (c .if1 .i ≤ length (c .before .before .before .before .args .s .now)) × (length (c .if1 .mem) ≡ length (c .before .before .before .before .args .mem .now))
-    × (runOf (run (c .before .before .before .before .args .c) (c .before .before .before .before .args .mem .now) more) (c .before .before .before .before .args .s .now) ≡ runOf (run (c .if1 .d) (c .if1 .mem) more) (drop (c .if1 .i) (c .before .before .before .before .args .s .now)))
+    → (c .if1 .i ≤ length (c .before .before .before .before .before .before .before .args .s .now)) × (length (c .if1 .mem) ≡ length (c .before .before .before .before .before .before .before .args .mem .now))
+    × (runOf (run (c .before .before .before .before .before .before .before .args .c) (c .before .before .before .before .before .before .before .args .mem .now) more) (c .before .before .before .before .before .before .before .args .s .now) ≡ runOf (run (c .if1 .d) (c .if1 .mem) more) (drop (c .if1 .i) (c .before .before .before .before .before .before .before .args .s .now)))
 before-loop c =
     ⊎-elim (λ w. (rw (w .8) (w .2 .ensures .0), ap length (w .6) ∙ w .3 .given, rw (w .6, w .7, w .8) (w .2 .ensures .1)))
     (λ w. (omega (arith, w .3), ap length (w .1), rw (w .1, w .2, w .3))) (c .if1 .came)
@@ -39,7 +39,7 @@ same-length c = let turn = c .before .before .before .before .before .before .be
 returns : tie.Need-returns Inv-loop μ-loop
 returns c =
     let turn = c .before .before .before .before .before .before .before .before .before in
-    let s = turn .before .before .before .before .before .args .s .now in
+    let s = turn .before .before .before .before .before .before .before .before .args .s .now in
     let l = turn .loop in
     before-loop (turn .before) .2 ∙ l .inv .2 ∙ run-at (l .d) (l .mem) s (l .i) (search needs)
     ∙ ap (λ (x : Run). runOf x (drop (l .i + 1) s)) (c .before .before .before .before .step .ensures)
@@ -48,7 +48,7 @@ returns c =
 add-i-2 : tie.Need-add-i-2 Inv-loop μ-loop
 add-i-2 c =
     let turn = c .before .before .before .before .before .before .before .before .before .before .before .before .before .before .before .before .before .before .before in
-    let entry = turn .before .before .before .before .before in
+    let entry = turn .before .before .before .before .before .before .before .before in
     let f = c .before .before .before .before .blocks3 in
     let h = within (entry .args .s .now) (turn .loop .i + 1) (f .result .used) (omega (arith, c .before .before .before .before .before .before .before .before .before .before .before .before .before .before .before .before .before .before .loop-test .taken)) (f .ensures .0) in
     record { fits = omega (arith, h, entry .good) }
@@ -57,7 +57,7 @@ loop-again : tie.Need-loop-again Inv-loop μ-loop
 loop-again c =
     let stepped = c .before .before .before .before .before .before .before .before .before .before .before .before .before .before in
     let turn = stepped .before .before .before .before .before in
-    let s = turn .before .before .before .before .before .args .s .now in
+    let s = turn .before .before .before .before .before .before .before .before .args .s .now in
     let l = turn .loop in
     let more = stepped .before .before .before .before .loop-test .taken in
     let f = c .before .before .before .before .blocks3 in (
@@ -72,7 +72,7 @@ loop-again-2 : tie.Need-loop-again-2 Inv-loop μ-loop
 loop-again-2 c =
     let stepped = c .before .before .before .before .before .before .before in
     let turn = stepped .before .before .before .before .before in
-    let s = turn .before .before .before .before .before .args .s .now in
+    let s = turn .before .before .before .before .before .before .before .before .args .s .now in
     let l = turn .loop in
     let more = stepped .before .before .before .before .loop-test .taken in (
       omega (arith, more),
@@ -87,7 +87,7 @@ same-length-2 c = c .before .loop .inv .1 ∙ before-loop (c .before .before) .1
 returns-2 : tie.Need-returns-2 Inv-loop μ-loop
 returns-2 c =
     let l = c .before .loop in
-    before-loop (c .before .before) .2 ∙ l .inv .2 ∙ run-end (l .d) (l .mem) (c .before .before .before .before .before .before .args .s .now) (l .i) (search needs)
+    before-loop (c .before .before) .2 ∙ l .inv .2 ∙ run-end (l .d) (l .mem) (c .before .before .before .before .before .before .before .before .before .args .s .now) (l .i) (search needs)
 
 pub feed-spec : {M : Type 1} → statement M
 feed-spec =
