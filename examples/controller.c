@@ -2,6 +2,7 @@
  * inside a window. First the run is closed and the stream started afresh; then, once more, its place is saved and the run
  * dropped before the power goes, and the rest of the stream is sent after a pick-up. Both leave what an unbroken load leaves. */
 #include "at6000.h"
+#include "sleep.h"
 
 #include <stdio.h>
 #include <string.h>
@@ -43,8 +44,10 @@ static int fails(const char *what)
 int main(void)
 {
     static const uint8_t kinds[8] = {0, 0};
-    uint8_t unbroken[MEMORY], mem[MEMORY], out[CELLS + 3], saved[AT6000_SAVED_LENGTH];
+    /* as large as devices, so not on the stack */
+    static uint8_t unbroken[MEMORY], mem[MEMORY], before[MEMORY], out[CELLS + 3], saved[AT6000_SAVED_LENGTH];
     at6000_answer a;
+    at6000_written w;
 
     park(unbroken);
     at6000_chain c = at6000_new(2, kinds, unbroken, MEMORY).chain;
@@ -63,14 +66,12 @@ int main(void)
     printf("pause after %d bytes: number %d, the array awaits cell %u of device %u\n", PAUSE, a.number, (unsigned)c.place.next,
            (unsigned)c.place.device);
     picture(mem);
-    at6000_written w = at6000_closing(c, mem, MEMORY, out, sizeof out);
+    memcpy(before, mem, MEMORY);
+    a = end_run(&c, mem, MEMORY, out, sizeof out, &w);
     printf("closing: number %d, %u bytes:", w.number, (unsigned)w.length);
     for (size_t i = 0; i < w.length; i++)
         printf(" %02X", out[i]);
     putchar('\n');
-    uint8_t before[MEMORY];
-    memcpy(before, mem, MEMORY);
-    a = at6000_slice_in(&c, mem, MEMORY, out, w.length);
     printf("sent: number %d, run %s, cells %s\n", a.number, c.place.running ? "open" : "ended",
            memcmp(before, mem, MEMORY) ? "CHANGED" : "as they were");
     if (c.place.running || memcmp(before, mem, MEMORY))
@@ -86,13 +87,11 @@ int main(void)
     c = at6000_new(2, kinds, mem, MEMORY).chain;
     at6000_start_in(&c, mem, MEMORY, MODE, WRITE);
     at6000_slice_in(&c, mem, MEMORY, measure, PAUSE);
-    w = at6000_save(c, mem, MEMORY, saved, sizeof saved);
-    printf("save: number %d, %u bytes\n", w.number, (unsigned)w.length);
-    at6000_made m = at6000_drop(c, mem, MEMORY);
-    printf("drop: number %d, %s, registers %s\n", m.number, m.chain.place.running ? "a run open" : "no run open",
-           memcmp(c.registers, m.chain.registers, sizeof c.registers) ? "CHANGED" : "as they were");
-    c = m.chain;
-    uint8_t n = at6000_pick_up_in(&c, mem, MEMORY, saved, w.length);
+    const at6000_chain paused = c;
+    uint8_t n = keep_run(&c, mem, MEMORY, saved);
+    printf("saved and dropped: number %d, %s, registers %s\n", n, c.place.running ? "a run open" : "no run open",
+           memcmp(c.registers, paused.registers, sizeof c.registers) ? "CHANGED" : "as they were");
+    n = at6000_pick_up_in(&c, mem, MEMORY, saved, sizeof saved);
     printf("pick-up: number %d, %u bytes taken so far\n", n, (unsigned)c.place.taken);
     a = at6000_slice_in(&c, mem, MEMORY, measure + c.place.taken, sizeof measure - c.place.taken);
     printf("the rest: number %d, %u bytes taken, memory %s\n", a.number, (unsigned)a.taken,

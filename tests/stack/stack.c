@@ -2,6 +2,7 @@
  * own, and the deepest byte that is paint no more tells how far down it went. An empty call in the same place is taken off: the
  * return address and the arguments on the stack are not counted. For x86-64, as the archive is. */
 #include "at6000.h"
+#include "on.h"
 
 #include <stdio.h>
 #include <stdlib.h>
@@ -9,12 +10,9 @@
 
 enum { ROOM = 4096, BIG = 16381, HEAD = 11, LENGTH = HEAD + BIG + 1, ANY = -1 };
 
-/* on() calls `make` with the stack at `top`. nothing() is the empty call; a large struct is returned through its address, which
- * comes in rdi and must leave in rax. */
-void on(void (*make)(void), void *top);
+/* The empty call; a large struct is returned through its address, which comes in rdi and must leave in rax. */
 void nothing(void);
 __asm__(".text\n"
-        "on: pushq %rbx\n movq %rsp, %rbx\n movq %rsi, %rsp\n call *%rdi\n movq %rbx, %rsp\n popq %rbx\n ret\n"
         "nothing: movq %rdi, %rax\n ret\n");
 
 /* What the next call is lent: a device, and a stream of one window over the whole of it. A call in place is lent a copy of the
