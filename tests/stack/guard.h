@@ -18,7 +18,8 @@ enum { STACK = 2048, GUARD = 65536 };
 static uint8_t *bottom; /* of the stack, and right above the guard */
 static const char *doing;
 
-static void touched(int signal, siginfo_t *info, void *context)
+/* An emulator may hand the signal over with the stack off by 8 bytes, so it is aligned here. */
+__attribute__((force_align_arg_pointer)) static void touched(int signal, siginfo_t *info, void *context)
 {
     static char text[200];
     const uintptr_t end = (uintptr_t)bottom, at = (uintptr_t)info->si_addr;
