@@ -1,6 +1,6 @@
 -- Each row of closing bytes ends a run that awaits its byte: by the byte's own step and the row of the byte after it. Assumes nothing.
 use Prim.Native.Nat.{ℕ, _+_, _-_, _*_, _/_, _<_, _≤_}
-use mathlib.Core.Bool.{Bool, true, false, _&&_, and-false, or-true}
+use mathlib.Core.Bool.{true, false, _&&_, and-false, or-true}
 use mathlib.Core.Path.{_≡_, refl, _∙_}
 use mathlib.Core.List.{List, [], _∷_}
 use native.Mathlib.Nat.{div-add-mod', mod-lt}
@@ -13,7 +13,7 @@ use Rattle.chain.proofs.ByCases.{by-test}
 use Rattle.chain.proofs.Means.{says, reads}
 use Rattle.chain.specs.declared.Chain.{Chain}
 use Rattle.chain.specs.declared.Place.{Place}
-use Rattle.chain.specs.Paper.{postamble, no-windows, at·preamble, at·second, at·control, at·address, at·address2, at·address3, at·count, at·null, at·start, at·start-low, at·end, at·end-low, at·data, at·check, writing, done, no-preamble, bad-start, bad-end, more, B3}
+use Rattle.chain.specs.Paper.{postamble, no-windows, at·preamble, at·second, at·control, at·address, at·address2, at·address3, at·count, at·null, at·start, at·start-low, at·end, at·end-low, at·data, at·check, done, no-preamble, bad-start, bad-end, more, B3}
 use Rattle.chain.specs.Rules.{pick}
 use Rattle.chain.specs.Set.{with·awaited, with·left, with·control, with·start, with·end, with·next, with·place}
 use Rattle.chain.specs.Kinds.{sizeAt, baseOf, sizeHere}
@@ -21,6 +21,7 @@ use Rattle.chain.specs.Window.{withLow}
 use Rattle.awaited.specs.Byte.{awaits, checks, badStart, badEnd, noWindow, numberOf, passedOf, advanceOf}
 use Rattle.machine.specs.Run.{addressOf, memoryOf, registersOf, missedOf, counted, run, stepOf, runOf}
 use Rattle.machine.specs.Block.{missesOf}
+use Rattle.machine.proofs.Runs.{registers-either}
 use Rattle.machine.proofs.Block.{blockOf, block, misses-same, laid-same}
 use Rattle.closing.specs.Closing.{storedRegister, withFF, tail, window, afterStart, refusesFF, endLow, afterEnd}
 use Rattle.closing.proofs.Ends.{Along, Ends, ends-last, ends-after, ends-step}
@@ -78,14 +79,9 @@ module _ (c : Chain) (m : List ℕ) where
   unfolding numberOf advanceOf
   step-6 e = quiet c m no-windows (with·awaited (next c) at·check) (simp (e, and-false)) (rw e) (rw e) (rw e)
 
-  -- the stored register as the control byte: a write loads what is there, a check loads nothing
+  -- the stored register as the control byte: what is loaded is what is there
   registers-2 : registersOf c (storedRegister c) ≡ c .registers
-  unfolding registersOf
-  registers-2 = rw (set-getD (c .registers) (c .place .device) 0) (either (awaits c at·control && eqb (c .place .check) writing))
-    where
-      either : (q : Bool) → pick q (c .registers) (c .registers) ≡ c .registers
-      either true = refl
-      either false = refl
+  registers-2 = registers-either c (storedRegister c) (λ g. g ≡ c .registers) (set-getD (c .registers) (c .place .device) 0) refl
 
   number-2 : c .place .awaited ≡ at·control → (checks c && B3 (storedRegister c)) ≡ false → numberOf c (storedRegister c) ≡ more
   unfolding numberOf

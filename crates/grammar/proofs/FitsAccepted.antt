@@ -6,8 +6,7 @@ use mathlib.Core.List.{List, [], _∷_, _++_}
 use native.Mathlib.Nat.{div-add-mod', mod-lt, mod-eq-of-lt}
 use native.Mathlib.Omega.{arith}
 use lib.Dec.{eqb, ltb, leb, eqb·suc-zero, lit<}
-use lib.ListN.{length, getD, set}
-use lib.Seq.{getD-set-other}
+use lib.ListN.{length, getD}
 use borrow.Author.Tests.{lt-ltb, le-ltb, lt-leb, ne-eqb}
 use Rattle.cells.proofs.Count.{sets-out}
 use Rattle.chain.specs.declared.Chain.{Chain}
@@ -23,7 +22,7 @@ use Rattle.machine.specs.Calls.{openedPlace}
 use Rattle.machine.specs.Block.{missesOf, laidOf}
 use Rattle.machine.proofs.Block.{block}
 use Rattle.machine.proofs.Feed.{run-append}
-use Rattle.machine.proofs.Runs.{run-first}
+use Rattle.machine.proofs.Runs.{run-first, registers-later}
 use Rattle.chain.specs.Kinds.{sizeAt}
 use Rattle.grammar.specs.Stream.{baseAt, Window, Section, windowSent, windowsSent, sectionSent, sectionsSent, leadSent, streamSent}
 use Rattle.grammar.specs.Sent.{frame, bytesOf}
@@ -223,12 +222,12 @@ sortOf check = pick (eqb check writing) writing checking
 no-bar : (check : ℕ) (bit : Bool) → (eqb check writing ≡ false → bit ≡ false) → (eqb (sortOf check) checking && bit) ≡ false
 no-bar check bit h = by-test (eqb check writing) (λ e. rw e refl) (λ e. rw e (h e))
 
--- the registers after the control byte b of device d
-abbrev loadedOf : ℕ → List ℕ → ℕ → ℕ → List ℕ
-loadedOf check g d b = pick (eqb check writing) (set g d b) g
+-- the registers after the control byte b
+abbrev loadedOf : Chain → List ℕ → Place → ℕ → List ℕ
+loadedOf c g p b = registersOf (placed c g (with·awaited p at·control)) b
 
 control-goes : (c : Chain) (g : List ℕ) (p : Place) (b : ℕ) → (eqb (p .check) checking && B3 b) ≡ false
-    → Goes (placed c g (with·awaited p at·control)) (b ∷ []) (placed c (loadedOf (p .check) g (p .device) b) (with·control (onTo at·address p) b))
+    → Goes (placed c g (with·awaited p at·control)) (b ∷ []) (placed c (loadedOf c g p b) (with·control (onTo at·address p) b))
 control-goes c g p b e =
     subst (λ (d : Chain). Goes q (b ∷ []) d) here (goes-step q b number)
   where
@@ -238,8 +237,8 @@ control-goes c g p b e =
     number : numberOf q b ≡ more
     number = unfold numberOf in simp (e, and-false)
 
-    here : wentOn q [] b ≡ placed c (loadedOf (p .check) g (p .device) b) (with·control (onTo at·address p) b)
-    here = unfold registersOf missedOf advanceOf in refl
+    here : wentOn q [] b ≡ placed c (loadedOf c g p b) (with·control (onTo at·address p) b)
+    here = unfold missedOf advanceOf in refl
 
 -- the count of n windows
 count-goes : (c : Chain) (g : List ℕ) (p : Place) (n : ℕ) → n ≤ no-windows
@@ -261,7 +260,7 @@ count-goes c g p n h =
 -- a section takes a run from its device's control byte to the check byte
 record Sectioned (c : Chain) (g : List ℕ) (bs : List ℕ) (p : Place) (b : ℕ) : Type 0 where
   pub place : Place
-  pub goes : Goes (placed c g (with·awaited p at·control)) bs (placed c (loadedOf (p .check) g (p .device) b) (with·awaited place at·check))
+  pub goes : Goes (placed c g (with·awaited p at·control)) bs (placed c (loadedOf c g p b) (with·awaited place at·check))
   pub device : place .device ≡ p .device
   pub check : place .check ≡ p .check
   pub control : place .control ≡ b
@@ -269,7 +268,7 @@ record Sectioned (c : Chain) (g : List ℕ) (bs : List ℕ) (p : Place) (b : ℕ
 section-goes : (c : Chain) (g : List ℕ) (d : ℕ) (s : Section) (p : Place) → p .device ≡ d → (eqb (p .check) checking && B3 (s .control)) ≡ false
     → SectionFits (sizeAt c d) s → Sectioned c g (bytesOf (sectionSent (baseAt c d) d s)) p (s .control)
 section-goes c g d s p i e f =
-    let h : List ℕ = loadedOf (p .check) g (p .device) (s .control) in
+    let h : List ℕ = loadedOf c g p (s .control) in
     let p1 : Place = with·control (onTo at·address p) (s .control) in
     let p2 : Place = onTo at·address2 p1 in
     let p3 : Place = onTo at·address3 p2 in
@@ -327,11 +326,6 @@ lets-alike check g h d s [] q l = subst (λ (x : ℕ). Lets check x (s .control)
 lets-alike check g h d s (t ∷ ts) q l =
     (subst (λ (x : ℕ). Lets check x (s .control)) (sym (q d (omega arith))) (l .0), lets-alike check g h (suc d) t ts (λ e n. q e (omega arith)) (l .1))
 
--- a control byte that is loaded leaves the registers of the devices after it
-pub loaded-alike : (q : Bool) (g : List ℕ) (d b e : ℕ) → suc d ≤ e → getD (pick q (set g d b) g) e 0 ≡ getD g e 0
-loaded-alike true g d b e l = getD-set-other g d e b 0 (λ z. omega arith)
-loaded-alike false g d b e l = refl
-
 first-below : (c : Chain) (d : ℕ) (s : Section) (ss : List Section) → SectionsFit c d s ss → d < c .count
 first-below c d s [] f = f .0
 first-below c d s (t ∷ ts) f = f .0
@@ -347,14 +341,14 @@ sections-accepted c check d s [] g p n i k l f =
     let e : (eqb (p .check) checking && B3 (s .control)) ≡ false = rw k (no-bar check (B3 (s .control)) (l .sent-b3)) in
     let t : Sectioned c g (bytesOf (sectionSent (baseAt c d) d s)) p (s .control) = section-goes c g d s p i e (f .1) in
     subst (λ (bs : List ℕ). Accepted (placed c g (with·awaited p at·control)) bs) (sym (bytes-append (sectionSent (baseAt c d) d s) (frame postamble ∷ [])))
-    (goes-accepted (t .goes) (last (ends-number c (loadedOf (p .check) g (p .device) (s .control)) (t .place))))
+    (goes-accepted (t .goes) (last (ends-number c (loadedOf c g p (s .control)) (t .place))))
 sections-accepted c check d s (u ∷ us) g p n i k l f =
     let e : (eqb (p .check) checking && B3 (s .control)) ≡ false = rw k (no-bar check (B3 (s .control)) (l .0 .sent-b3)) in
     let t : Sectioned c g (bytesOf (sectionSent (baseAt c d) d s)) p (s .control) = section-goes c g d s p i e (f .1) in
-    let h : List ℕ = loadedOf (p .check) g (p .device) (s .control) in
+    let h : List ℕ = loadedOf c g p (s .control) in
     let q : Place = with·control (with·device (counted (t .place) 1 0) (suc d)) 0 in
     let lets : AllLet check h (suc d) u us =
-    lets-alike check g h (suc d) u us (λ x y. loaded-alike (eqb (p .check) writing) g (p .device) (s .control) x (omega arith)) (l .1) in
+    lets-alike check g h (suc d) u us (λ x y. registers-later (placed c g (with·awaited p at·control)) (s .control) x (omega arith)) (l .1) in
     let low : suc d < c .count = first-below c (suc d) u us (f .3) in
     let go : Goes (placed c h (with·awaited (t .place) at·check)) (preamble ∷ []) (placed c h (with·awaited q at·control)) =
     next-goes c h (t .place) check (suc d) (u .control) (t .check ∙ k) (ap suc (t .device ∙ i)) low (omega arith) (ap B2 (t .control) ∙ f .2) (first-lets check h (suc d) u us lets) in

@@ -7,6 +7,7 @@ use mathlib.Core.List.{List, [], _∷_, _++_}
 use native.Mathlib.Omega.{arith}
 use lib.Dec.{eqb}
 use lib.ListN.{length, getD, set}
+use lib.Seq.{getD-set-other}
 use borrow.Author.Tests.{eqb-true}
 use Rattle.chain.specs.declared.Chain.{Chain}
 use Rattle.chain.specs.Paper.{preamble, no-windows, at·control, at·data, writing, checking, most-devices, more, B3, B4}
@@ -30,7 +31,7 @@ use Rattle.grammar.specs.Fits.{Lets, AllLet}
 use Rattle.grammar.specs.Stores.{aim, walkOf}
 use Rattle.grammar.proofs.Walk.{put}
 use Rattle.grammar.proofs.Accepted.{Accepted, last, next}
-use Rattle.grammar.proofs.FitsAccepted.{lets-alike, loaded-alike}
+use Rattle.grammar.proofs.FitsAccepted.{lets-alike}
 
 -- ---- a walk whose control bytes are let in
 
@@ -132,6 +133,11 @@ past-plain : (w : Bool) (g : List ℕ) (xs ys : List Sent) → Plain xs → LetA
 past-plain w g [] ys p h = h
 past-plain w g (x ∷ xs) ys p h =
     past-plain w g xs ys (p .1) (subst (λ (k : List ℕ). LetAlong w k (xs ++ ys)) (same-registers w g (x .to) (x .byte) (p .0)) (h .1))
+
+-- a control byte that is loaded leaves the registers of the devices after it
+loaded-alike : (q : Bool) (g : List ℕ) (d b e : ℕ) → suc d ≤ e → getD (pick q (set g d b) g) e 0 ≡ getD g e 0
+loaded-alike true g d b e l = getD-set-other g d e b 0 (λ z. omega arith)
+loaded-alike false g d b e l = refl
 
 lets-of : (check stored control : ℕ) → LetBy (eqb check writing) stored control → Lets check stored control
 lets-of check stored control h = record { b4 = h .b4; b3 = h .b3; sent-b3 = h .sent-b3 }

@@ -13,7 +13,7 @@ use Rattle.machine.specs.Calls.{openedPlace}
 use Rattle.grammar.specs.Sent.{Sent, Store, memory, registers}
 use Rattle.grammar.proofs.OtherRegisters.{with·registers}
 use Rattle.grammar.specs.Stores.{walkOf}
-use Rattle.grammar.proofs.Walk.{walk-take, putAll, storeOf, run-stores}
+use Rattle.grammar.proofs.Walk.{walk-take, putAll, storeOf, write-changes, run-stores}
 use Rattle.grammar.proofs.Counts.{taken-walk}
 use Rattle.grammar.proofs.Accepted.{Accepted, accepted-done}
 use Rattle.grammar.proofs.LastByte.{length-putAll, putAll-again}
@@ -33,8 +33,7 @@ pub record Restarted (o d : Chain) (m m′ bs : List ℕ) : Type 0 where
 -- what a write leaves of a store, and what its first k bytes leave
 pub load-puts : (k : Store) (bs : List ℕ) (o : Chain) (m : List ℕ) → writes o ≡ true
     → storeOf k (runOf (run o m more) bs) ≡ putAll k (walkOf o bs) (storeOf k (run o m more))
-load-puts memory bs o m w = run-stores memory bs o m ∙ rw w
-load-puts registers bs o m w = run-stores registers bs o m ∙ rw w
+load-puts k bs o m w = run-stores k bs o m ∙ rw (write-changes k o w)
 
 pub stop-puts : (k : Store) (n : ℕ) (bs : List ℕ) (o : Chain) (m : List ℕ) → writes o ≡ true
     → storeOf k (runOf (run o m more) (take n bs)) ≡ putAll k (take n (walkOf o bs)) (storeOf k (run o m more))

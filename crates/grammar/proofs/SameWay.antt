@@ -15,7 +15,7 @@ use Rattle.awaited.specs.Byte.{awaits, checks, begins, nextDevice, registerBegu
 use Rattle.machine.specs.Run.{writes, addressOf, registersOf, missedOf, wentOn}
 use Rattle.grammar.specs.Sent.{Target, Sent, memory, registers, Slot, no-slot, index, slot, after}
 use Rattle.grammar.specs.Stores.{aim, walkOf}
-use Rattle.grammar.proofs.Walk.{walk-on, walk-over, put, byte-stores, byte-changes}
+use Rattle.grammar.proofs.Walk.{walk-on, walk-over, put, write-changes, byte-stores, byte-changes}
 use Rattle.grammar.proofs.Accepted.{Accepted, last, next, done-over}
 use Rattle.grammar.proofs.OtherRegisters.{with·registers}
 use Rattle.grammar.proofs.LastByte.{length-put, getD-put}
@@ -114,9 +114,9 @@ same-way (b ∷ []) o h w (last e) l f =
 same-way (b ∷ bs) o h w (next e a) l f =
     let n : numberOf (with·registers o h) b ≡ more = number-same o h b w f (λ q. omega arith) ∙ e in
     let s = went-same o h b in
-    let p = byte-stores o [] b registers w in
-    let q = byte-stores (with·registers o h) [] b registers w ∙ ap (λ (y : Target). put (slot registers y) b h) (aim-same o h b) in
-    let i = same-way bs (wentOn o [] b) (registersOf (with·registers o h) b) (byte-changes o [] b memory w) a
+    let p = byte-stores o [] b registers (write-changes registers o w) in
+    let q = byte-stores (with·registers o h) [] b registers (write-changes registers (with·registers o h) w) ∙ ap (λ (y : Target). put (slot registers y) b h) (aim-same o h b) in
+    let i = same-way bs (wentOn o [] b) (registersOf (with·registers o h) b) (byte-changes o [] b memory (write-changes memory o w)) a
     (rw (p, q, length-put (slot registers (aim o)) b h, l) (sym (length-put (slot registers (aim o)) b (o .registers))))
     (rw (p, q) (freer-put (slot registers (aim o)) b (o .registers) h l f)) in (
       next n (subst (λ (d : Chain). Accepted d bs) (sym s) (i .0)),

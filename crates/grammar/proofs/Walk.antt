@@ -12,7 +12,7 @@ use Rattle.chain.specs.declared.Chain.{Chain}
 use Rattle.chain.specs.Paper.{at·control, at·data, more}
 use Rattle.chain.proofs.ByCases.{by-test}
 use Rattle.awaited.specs.Byte.{awaits, numberOf}
-use Rattle.machine.specs.Run.{addressOf, memoryOf, registersOf, missedOf, counted, ended, Run, run, wentOn, runOf}
+use Rattle.machine.specs.Run.{writes, addressOf, memoryOf, registersOf, missedOf, counted, ended, Run, run, wentOn, runOf}
 use Rattle.grammar.proofs.runs.Blind.{still, went-still}
 use Rattle.machine.proofs.Frame.{advance-frame}
 use Rattle.grammar.proofs.runs.Kept.{unwritten-run, unloaded-run}
@@ -74,6 +74,11 @@ storeOf memory r = r .memory
 storeOf registers r = r .chain .registers
 
 -- ---- one byte of a run
+
+-- a write changes both
+pub write-changes : (k : Store) (c : Chain) → writes c ≡ true → changes k c ≡ true
+write-changes memory c w = w
+write-changes registers c w = w
 
 module _ (c : Chain) (m : List ℕ) (b : ℕ) where
   pub byte-stores : (k : Store) → changes k c ≡ true

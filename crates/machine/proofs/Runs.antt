@@ -1,14 +1,15 @@
 -- One step, and a run byte by byte: it goes on or it is over. Assumes nothing.
 use Prim.Native.Nat.{ℕ, _<_}
-use mathlib.Core.Bool.{Bool, _&&_}
+use mathlib.Core.Bool.{_&&_}
 use mathlib.Core.Path.{_≡_, refl, ap, sym, _∙_}
 use mathlib.Core.List.{List, [], _∷_}
+use native.Mathlib.Omega.{arith}
 use borrow.Author.Tests.{eq-eqb, ne-eqb, eqb-true, eqb-false}
 use lib.Dec.{eqb}
-use lib.ListN.{length, set, length-set}
+use lib.ListN.{length, getD, set, length-set}
+use lib.Seq.{getD-set-other}
 use Rattle.chain.specs.declared.Chain.{Chain}
 use Rattle.chain.specs.Paper.{at·control, at·data, more}
-use Rattle.chain.specs.Rules.{pick}
 use Rattle.chain.specs.Bytes.{Bytes}
 use Rattle.chain.proofs.ByCases.{by-test, either-way}
 use Rattle.awaited.specs.Byte.{awaits, numberOf}
@@ -85,17 +86,24 @@ pub record Lasts (r s : Run) : Type 0 where
   pub registers : length (s .chain .registers) ≡ length (r .chain .registers)
   pub memory : length (s .memory) ≡ length (r .memory)
 
-stored-length : (t : Bool) (l : List ℕ) (i b : ℕ) → length (pick t (set l i b) l) ≡ length l
-stored-length t l i b = either-way (λ (k : List ℕ). length k ≡ length l) t (set l i b) l (length-set l i b) refl
+-- what holds of the registers, and of the registers with the byte loaded, holds after the byte, whether it was loaded or not
+module _ (c : Chain) (b : ℕ) where
+  pub registers-either : (P : List ℕ → Type 0) → P (set (c .registers) (c .place .device) b) → P (c .registers) → P (registersOf c b)
+  unfolding registersOf
+  registers-either P h k = either-way P (awaits c at·control && loads c) (set (c .registers) (c .place .device) b) (c .registers) h k
+
+  -- no byte loads the register of a later device
+  pub registers-later : (e : ℕ) → c .place .device < e → getD (registersOf c b) e 0 ≡ getD (c .registers) e 0
+  registers-later e h =
+      registers-either (λ g. getD g e 0 ≡ getD (c .registers) e 0) (getD-set-other (c .registers) (c .place .device) e b 0 (λ z. omega arith)) refl
 
 module _ (c : Chain) (m : List ℕ) (b : ℕ) where
   pub memory-length : length (memoryOf c m b) ≡ length m
   unfolding memoryOf
-  memory-length = stored-length (awaits c at·data && writes c) m (addressOf c) b
+  memory-length = either-way (λ (k : List ℕ). length k ≡ length m) (awaits c at·data && writes c) (set m (addressOf c) b) m (length-set m (addressOf c) b) refl
 
   pub registers-length : length (registersOf c b) ≡ length (c .registers)
-  unfolding registersOf
-  registers-length = stored-length (awaits c at·control && loads c) (c .registers) (c .place .device) b
+  registers-length = registers-either c b (λ g. length g ≡ length (c .registers)) (length-set (c .registers) (c .place .device) b) refl
 
 pub step-lasts : (r : Run) (b : ℕ) → Lasts r (stepOf (r .chain) (r .memory) b)
 unfolding stepOf

@@ -2,61 +2,71 @@
 -- the count of mismatches alone. Assumes nothing.
 use Prim.Native.Nat.{ℕ, _+_, _-_, _%_, _^_}
 use mathlib.Core.Bool.{Bool, true, false}
-use mathlib.Core.Path.{_≡_, refl, sym, subst}
+use mathlib.Core.Path.{_≡_, refl, ap, sym, subst, _∙_}
 use mathlib.Core.List.{List, [], _∷_}
 use lib.Dec.{eqb, ltb, leb}
 use Rattle.chain.specs.declared.Chain.{Chain}
 use Rattle.chain.specs.declared.Place.{Place}
 use Rattle.chain.specs.Paper.{no-windows, at·null, at·check, more}
 use Rattle.chain.specs.Rules.{Row, _⇒_, rowOf, pick}
-use Rattle.chain.specs.Set.{with·awaited, with·left, with·mismatches, with·place}
+use Rattle.chain.specs.Set.{with·check, with·awaited, with·left, with·mismatches, with·place}
 use Rattle.chain.proofs.ByCases.{by-test}
 use Rattle.awaited.specs.Byte.{passedOf, advanceRows, advanceOf, numberOf}
+use Rattle.machine.proofs.Frame.{advance-frame}
 use Rattle.machine.specs.Run.{registersOf, missedOf, counted, Run, run, wentOn, stepOf, onByte, runOf}
 
 -- the same chain with j mismatches
 abbrev pub still : Chain → ℕ → Chain
 still c j = with·place c (with·mismatches (c .place) j)
 
--- ---- the place goes the same way
+-- ---- the place goes the same way, whatever the sort of run
 
-still-pick : (j : ℕ) (t : Bool) (x y x′ y′ : Place) → x′ ≡ with·mismatches x j → y′ ≡ with·mismatches y j
-    → pick t x′ y′ ≡ with·mismatches (pick t x y) j
-still-pick j true x y x′ y′ f g = f
-still-pick j false x y x′ y′ f g = g
+-- the same place in a run of the sort k, with j mismatches
+abbrev pub sorted : Place → ℕ → ℕ → Place
+sorted p k j = with·mismatches (with·check p k) j
 
--- the same table, row by row
-abbrev Stills : ℕ → List (Row Place) → List (Row Place) → Type 0
-Stills j [] [] = Unit {0}
-Stills j [] (x ∷ rows) = ⊥
-Stills j ((n ⇒ q) ∷ rows) [] = ⊥
-Stills j ((n ⇒ q) ∷ rows) ((n′ ⇒ q′) ∷ rows′) = ((n′ ≡ n) × (q′ ≡ with·mismatches q j)) × Stills j rows rows′
+module _ (k j : ℕ) where
+  sorted-pick : (t : Bool) (x y x′ y′ : Place) → x′ ≡ sorted x k j → y′ ≡ sorted y k j → pick t x′ y′ ≡ sorted (pick t x y) k j
+  sorted-pick true x y x′ y′ f g = f
+  sorted-pick false x y x′ y′ f g = g
 
-rows-still : (j a : ℕ) (p : Place) (rows rows′ : List (Row Place)) → Stills j rows rows′
-    → rowOf a rows′ (with·mismatches p j) ≡ with·mismatches (rowOf a rows p) j
-rows-still j a p [] [] s = refl
-rows-still j a p [] (x ∷ rows′) s = absurd s
-rows-still j a p ((n ⇒ q) ∷ rows) [] s = absurd s
-rows-still j a p ((n ⇒ q) ∷ rows) ((n′ ⇒ q′) ∷ rows′) s =
-    rw (s .0 .0)
-    (still-pick j (eqb a n) q (rowOf a rows p) q′ (rowOf a rows′ (with·mismatches p j)) (s .0 .1) (rows-still j a p rows rows′ (s .1)))
+  -- the same table, row by row
+  abbrev Sorts : List (Row Place) → List (Row Place) → Type 0
+  Sorts [] [] = Unit {0}
+  Sorts [] (x ∷ rows) = ⊥
+  Sorts ((n ⇒ q) ∷ rows) [] = ⊥
+  Sorts ((n ⇒ q) ∷ rows) ((n′ ⇒ q′) ∷ rows′) = ((n′ ≡ n) × (q′ ≡ sorted q k j)) × Sorts rows rows′
 
-passed-still : (p : Place) (n j : ℕ) → passedOf (with·mismatches p j) n ≡ with·mismatches (passedOf p n) j
-unfolding passedOf
-passed-still p n j =
-    by-test (leb (p .next + n) (p .end)) (λ e. rw e refl)
-    (λ e. rw e (by-test (ltb 1 (p .left)) (λ f. rw f refl) (λ f. rw f refl)))
+  rows-sorted : (a : ℕ) (p : Place) (rows rows′ : List (Row Place)) → Sorts rows rows′
+      → rowOf a rows′ (sorted p k j) ≡ sorted (rowOf a rows p) k j
+  rows-sorted a p [] [] s = refl
+  rows-sorted a p [] (x ∷ rows′) s = absurd s
+  rows-sorted a p ((n ⇒ q) ∷ rows) [] s = absurd s
+  rows-sorted a p ((n ⇒ q) ∷ rows) ((n′ ⇒ q′) ∷ rows′) s =
+      rw (s .0 .0)
+      (sorted-pick (eqb a n) q (rowOf a rows p) q′ (rowOf a rows′ (sorted p k j)) (s .0 .1) (rows-sorted a p rows rows′ (s .1)))
 
-count-still : (p : Place) (b j : ℕ)
-    → pick (eqb b no-windows) (with·awaited (with·mismatches p j) at·check) (with·awaited (with·left (with·mismatches p j) (255 - b)) at·null)
-    ≡ with·mismatches (pick (eqb b no-windows) (with·awaited p at·check) (with·awaited (with·left p (255 - b)) at·null)) j
-count-still p b j = by-test (eqb b no-windows) (λ e. rw e refl) (λ e. rw e refl)
+  passed-sorted : (p : Place) (n : ℕ) → passedOf (sorted p k j) n ≡ sorted (passedOf p n) k j
+  unfolding passedOf
+  passed-sorted p n =
+      by-test (leb (p .next + n) (p .end)) (λ e. rw e refl)
+      (λ e. rw e (by-test (ltb 1 (p .left)) (λ f. rw f refl) (λ f. rw f refl)))
 
+  count-sorted : (p : Place) (b : ℕ)
+      → pick (eqb b no-windows) (with·awaited (sorted p k j) at·check) (with·awaited (with·left (sorted p k j) (255 - b)) at·null)
+      ≡ sorted (pick (eqb b no-windows) (with·awaited p at·check) (with·awaited (with·left p (255 - b)) at·null)) k j
+  count-sorted p b = by-test (eqb b no-windows) (λ e. rw e refl) (λ e. rw e refl)
+
+  pub advance-sorted : (p : Place) (b : ℕ) → advanceOf (sorted p k j) b ≡ sorted (advanceOf p b) k j
+  unfolding advanceOf
+  advance-sorted p b =
+      rows-sorted (p .awaited) p (advanceRows p b) (advanceRows (sorted p k j) b)
+      ((refl, refl), ((refl, refl), ((refl, refl), ((refl, refl), ((refl, refl), ((refl, refl), ((refl, count-sorted p b), ((refl, refl), ((refl, refl), ((refl, refl), ((refl, refl), ((refl, refl), ((refl, passed-sorted p 1), ((refl, refl), tt))))))))))))))
+
+-- with other mismatches alone
 advance-still : (p : Place) (b j : ℕ) → advanceOf (with·mismatches p j) b ≡ with·mismatches (advanceOf p b) j
-unfolding advanceOf
 advance-still p b j =
-    rows-still j (p .awaited) p (advanceRows p b) (advanceRows (with·mismatches p j) b)
-    ((refl, refl), ((refl, refl), ((refl, refl), ((refl, refl), ((refl, refl), ((refl, refl), ((refl, count-still p b j), ((refl, refl), ((refl, refl), ((refl, refl), ((refl, refl), ((refl, refl), ((refl, passed-still p 1 j), ((refl, refl), tt))))))))))))))
+    advance-sorted (p .check) j p b ∙ ap (λ (k : ℕ). sorted (advanceOf p b) k j) (sym (advance-frame p b .check))
 
 -- ---- the run goes the same way
 
