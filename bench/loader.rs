@@ -159,8 +159,7 @@ impl Chain {
             Preamble => run.control == 0 && run.device == 0,
             Second => run.control == 0 && run.device == 0 && run.mode == 6,
             Control => run.control == 0 && barred(register, run.check).is_none(),
-            _ if run.check => run.control & 8 == 0,
-            _ => run.control == register,
+            _ => run.control == register && !(run.check && run.control & 8 != 0),
         };
         fields && control
     }
@@ -278,9 +277,7 @@ impl Chain {
                 if run.check && b & 8 != 0 {
                     return Some(7);
                 }
-                if !run.check {
-                    self.registers[run.device] = b;
-                }
+                self.registers[run.device] = b;
                 run.control = b;
                 run.awaited = Address(0);
             }

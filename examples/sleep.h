@@ -6,7 +6,7 @@
 #include "at6000.h"
 
 /* Ends the run: afterwards send the first w->length bytes of `out` to the arrays. `out` has room for the current device's size
- * plus 3. The stream can then be started afresh, unless a control byte that a write took set bit 4: its device is barred then (6).
+ * plus 3. The stream can then be started afresh, unless a control byte that the run took set bit 4: its device is barred then (6).
  *
  * The run is ended exactly where w->number is 0; the answer's number is then that of the last closing byte, which may be a refusal
  * of the array's own, 5, 11 or 12, or 0. Otherwise nothing is to be sent and all is as it was: w->number is 15 where `out` is too

@@ -90,8 +90,11 @@ at6000_made at6000_reset(at6000_chain c, uint8_t *mem, size_t mem_len);
 /* Opens a run in a mode, 1 to 6; check 0 writes, all else checks. Gives 1, 17, 2, 3, else 0; refused, the state is as lent. */
 at6000_made at6000_start(at6000_chain c, const uint8_t *mem, size_t mem_len, uint8_t mode, uint8_t check);
 
-/* Feeds bytes to the open run and stops at its end; later bytes are not looked at. A write stores each data byte at once, a
- * check stores nothing and counts the data bytes that differ from their cells.
+/* Feeds bytes to the open run and stops at its end; later bytes are not looked at. A write stores each data byte at once; a
+ * check changes no cell and counts the data bytes that differ from theirs. Both load the control byte into the device's
+ * register when it is taken. So a check, too, can bar its device from every later run, write or check (6): bit 4 stays until a
+ * reset, or a pick-up with older registers. Checks alone, by bit 3, it cannot bar: such a control byte is 7 in a check, and is
+ * not loaded.
  * Gives 1, 17, 4 (with counts 0 and 0, and all as lent), then the bytes' own 5 to 12, 0 where the run is accepted, 16 where the
  * slice is used up and the run still open. The answer has the run's bytes taken and mismatches so far, modulo 2^32. A refused
  * byte counts as taken, closes the run and changes no cell and no register; what earlier bytes stored stays. */

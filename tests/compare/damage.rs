@@ -49,13 +49,15 @@ pub fn damage(random: &mut Random, chain: &mut Chain) {
         }
         9 => {
             let awaited = random.within(3, 13) as u8;
-            open_at(random, chain, awaited, 0);
+            open_at(random, chain, awaited, check);
             chain.place.control ^= 1 << random.below(8);
         }
         10 => {
             let awaited = random.within(3, 13) as u8;
+            // Equal to the register, so that nothing but B3 is wrong.
             open_at(random, chain, awaited, 1);
             chain.place.control |= BIT_3;
+            chain.registers[chain.place.device as usize] |= BIT_3;
         }
         11 => {
             open(random, chain);

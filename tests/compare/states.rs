@@ -1,6 +1,5 @@
 //! Places: well-formed open ones of every awaited byte, closed ones with junk in them, and any bytes at all.
 
-use crate::chains::register;
 use crate::model::chain::{Chain, Place};
 use crate::model::numbers::*;
 use crate::random::Random;
@@ -109,7 +108,8 @@ pub fn open_at(random: &mut Random, chain: &mut Chain, awaited: u8, check: u8) {
         *stored &= if check == 1 { !(BIT_3 | BIT_4) } else { !BIT_4 };
     }
     if awaited > AT_CONTROL {
-        place.control = if check == 1 { register(random) & !BIT_3 } else { *stored };
+        *stored &= if check == 1 { !BIT_3 } else { 0xFF };
+        place.control = *stored;
     }
     if (AT_NULL..=AT_DATA).contains(&awaited) {
         place.left = random.pick(&[1, 1, 2, 2, 3, 128, 255]);

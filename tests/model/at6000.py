@@ -98,15 +98,13 @@ def well_formed(c, registers, p):
         return False
     if p.awaited == 1 and p.mode != 6:
         return False
-    # "Control byte 0 before it is taken; after, in a write, equal to the stored register, and in a check with B3 clear."
+    # "Control byte 0 before it is taken; after, .. in a check with B3 clear." Document 02: "In the saved place the current control byte
+    # equals the stored register in both sorts of run."
     stored = registers[p.device]
     if p.awaited <= CONTROL:
         if p.control != 0:
             return False
-    elif p.check:
-        if p.control & B3:
-            return False
-    elif p.control != stored:
+    elif p.control != stored or p.check and p.control & B3:
         return False
     # "Awaited 0 to 6 and 13: windows, start, end, next 0. 7 to 12: windows at least 1."
     size = SIZES[c.kinds[p.device]]
@@ -249,9 +247,8 @@ def take(c, mem, b):
     elif p.awaited in (PREAMBLE_1, PREAMBLE_2):
         begin(c, 0)
     elif p.awaited == CONTROL:
-        # "In a write the control byte is loaded when taken." "A check loads no register."
-        if not p.check:
-            c.registers[p.device] = b
+        # "In a write the control byte is loaded when taken." Document 02: "a check stores the control byte too, after the test for 7."
+        c.registers[p.device] = b
         p.control = b
         p.awaited = ADDRESS_1
     elif p.awaited in (ADDRESS_1, ADDRESS_2, ADDRESS_3):

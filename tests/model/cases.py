@@ -473,7 +473,7 @@ def cases_control(s):
     s.reset(0)
     s.start(0, 1)
     s.feed(0, A, 15, 0)
-    s.say("7: 'check .. or the control byte sets B3', at the control byte; 'A check loads no register'")
+    s.say("7: 'check .. or the control byte sets B3', at the control byte, which 'changes no cell or register'")
     s.fill(0x40)
     for control in (0x08, 0xFF, 0x1C):
         s.start(0, 1, 1)
@@ -481,9 +481,35 @@ def cases_control(s):
         s.byte(7, control, 2, 0)
         s.start(0, 6, 1)
         s.feed(7, bytes([PREAMBLE, PREAMBLE, control]) + A, 3, 0)
-    for control in (0x01, 0x10, 0xF7):
+    assert s.c.registers[0] == 0x00
+    s.say("document 02: 'a check stores the control byte too, after the test for 7', every bit but B3; B4 bars later runs, not this one")
+    for control in (0x00, 0x01, 0x02, 0x04, 0x20, 0x40, 0x80, 0xE7):
         s.start(0, 1, 1)
-        s.feed(0, stream(section([], control)), 7, 0)
+        s.feed(16, bytes([PREAMBLE, control]), 2, 0)
+        assert s.c.registers[0] == control
+        s.feed(0, stream(section([], control))[2:], 7, 0)
+    s.start(0, 1, 1)
+    s.feed(0, stream(section([window(3, 4, "4041")], 0xF7)), 14, 1)
+    assert s.c.registers[0] == 0xF7
+    for check in (0, 1):
+        s.start(0, 1, check)
+        s.feed(6, A, 1, 0)
+    s.reset(0)
+    s.say("a register that a check stored stays when the check is refused later, or dropped: the next run meets its B4")
+    for number, rest in ((8, "FF 00"), (10, "FF B2"), (11, "FE 00 00 34"), (12, "FE 00 00 09 00 08")):
+        s.start(0, 1, 1)
+        s.feed(16, "B2 50 00 00 00", 5, 0)
+        s.feed(number, rest)
+        assert s.c.registers[0] == 0x50
+        s.start(0, 1)
+        s.byte(6, PREAMBLE, 1, 0)
+        s.reset(0)
+    s.start(0, 1, 1)
+    s.feed(16, "B2 10", 2, 0)
+    s.drop(0)
+    s.start(0, 1, 1)
+    s.byte(6, PREAMBLE, 1, 0)
+    s.reset(0)
     s.say("in a write a control byte with B3 is taken")
     s.start(0, 1)
     s.feed(0, stream(section([], 0x08)), 7, 0)
@@ -575,12 +601,12 @@ def cases_check_byte(s):
     s.feed(9, stream(section([], 0x04), section([])), 7, 0)
     s.start(0, 1)
     s.feed(0, stream(section([], 0x04)), 7, 0)
-    s.say("9 in a check 'reads the bit from the stream's control byte': stored set and stream clear goes on, stored clear and stream set is 9")
+    s.say("9 in a check 'reads the bit from the stream's control byte': set before the run and clear in the stream goes on, the other way round is 9")
     s.start(0, 1, 1)
     s.feed(0, stream(section([], 0x00), section([], 0x00)), 13, 0)
-    load(s, 0x00)
     s.start(0, 1, 1)
     s.feed(9, stream(section([], 0x04), section([], 0x00)), 7, 0)
+    assert s.c.registers[:2] == [0x04, 0x00]
     s.say("10: 'check byte B2 after the last device'")
     s.start(0, 1)
     s.feed(10, stream(section([]), section([], 0x01), section([])), 13, 0)
@@ -622,6 +648,25 @@ def cases_check_byte(s):
     s.say("a device's own stored B4 that this run has just set does not bar the next one")
     s.start(0, 1)
     s.feed(0, stream(section([], 0x10), section([], 0x10)), 13, 0)
+    s.say("document 02: a check stores each device's control byte; the second device's B4 then gives 6, and 9 comes before it")
+    s.reset(0)
+    s.start(0, 1, 1)
+    s.feed(0, stream(section([], 0x20), section([], 0x10)), 13, 0)
+    assert s.c.registers[:2] == [0x20, 0x10]
+    for check in (1, 0):
+        s.start(0, 1, check)
+        s.feed(6, stream(section([], 0x40), section([])), 7, 0)
+        s.start(0, 1, check)
+        s.feed(9, stream(section([], 0x04), section([])), 7, 0)
+        assert s.c.registers[:2] == [0x04, 0x10]
+    s.say("document 02: a check whose control byte sets B2 and B4 meets 9, and the run after it 6")
+    s.reset(0)
+    s.start(0, 6, 1)
+    s.feed(9, stream(section([], 0x14), section([]), lead="B2B2"), 8, 0)
+    s.start(0, 6, 1)
+    s.feed(6, stream(section([]), lead="B2B2"), 2, 0)
+    s.start(0, 1)
+    s.feed(6, stream(section([])), 1, 0)
 
 
 def cases_check(s):
@@ -904,11 +949,18 @@ def rows_of_places():
         for check in (0, 1):
             row("Control byte 0 before it is taken", False, at(awaited, 6, check, control=0x01), [0x01])
     for awaited in (3, 4, 5, 6, 7, 8, 9, 10, 11, 12, 13):
-        row("after, in a write, equal to the stored register", True, at(awaited, control=0x5A), [0x5A])
-        row("after, in a write, equal to the stored register", False, at(awaited, control=0x5A), [0x5B, 0x5A])
-        row("and in a check with B3 clear", True, at(awaited, check=1, control=0xF7), [0x5A])
+        for check in (0, 1):
+            equal = "document 02: the current control byte equals the stored register in both sorts of run"
+            row(equal, True, at(awaited, check=check, control=0x52), [0x52])
+            row(equal, False, at(awaited, check=check, control=0x52), [0x53, 0x52])
+            row(equal, False, at(awaited, check=check), [0x52])
+            row(equal, False, at(awaited, check=check, control=0x52))
+        row("and in a check with B3 clear", True, at(awaited, check=1, control=0xF7), [0xF7])
         row("and in a check with B3 clear", False, at(awaited, check=1, control=0x08), [0x08])
-    row("its own device's register", True, at(6, device=1, control=0x5A), [0x00, 0x5A])
+        row("and in a check with B3 clear", False, at(awaited, check=1, control=0xFF), [0xFF])
+    for check in (0, 1):
+        row("its own device's register", True, at(6, check=check, device=1, control=0x52), [0x00, 0x52])
+        row("its own device's register", False, at(6, check=check, device=1, control=0x52), [0x52, 0x00])
     row("in a write B3 and B4 may be set", True, at(6, control=0xFF), [0xFF])
     for awaited in (0, 1, 2, 3, 4, 5, 6, 13):
         for field in ("left", "start", "end", "next"):
@@ -946,7 +998,7 @@ def rows_of_places():
             row("At 2: .. in a check B3 too", not check, at(2, check=check, device=device), stored + [B3])
             row("At 2: the other bits are any", True, at(2, check=check, device=device), stored + [0xE7])
     row("At 2: the other devices' registers are any", True, at(2), [0x00, 0xFF])
-    row("after 2: stored B3 and B4 may be set in a check", True, at(3, check=1), [0xFF])
+    row("after 2: stored B4 may be set in a check", True, at(3, check=1, control=0x10), [0x10])
     return rows
 
 
@@ -977,7 +1029,7 @@ def cases_saved(s):
     zeros = "00 00 00 00 00 00 00"
     s.save(0, f"12 18 01 00 0009 000B 000A 0000000C 00000000 00 {zeros} 00")
     stopped(s, 6, 1, 0xC3, two, 13)
-    s.save(0, f"1D 18 02 00 0009 000B 000A 0000000D 00000001 C3 {zeros} 81")
+    s.save(0, f"1D 18 02 00 0009 000B 000A 0000000D 00000001 81 {zeros} 81")
     s.new(0, 8, [0] * 8)
     load(s, 1, 2, 3, 0x20, 0x21, 0x22, 0x23, 0x28)
     s.start(0, 5)
@@ -1303,7 +1355,7 @@ def cases_stops(s):
         s.start(0, mode, check)
         s.feed(0, two, len(two), 5 * check)
         unbroken = s.mem, s.c
-        assert check or (s.mem[9:11], s.mem[102:104], s.c.registers[:2]) == (b"\x11\x44", b"\x55\x66", [0x21, 0xC2])
+        assert s.c.registers[:2] == [0x21, 0xC2] and (check or (s.mem[9:11], s.mem[102:104]) == (b"\x11\x44", b"\x55\x66"))
         s.say("stopped at every byte: the closing bytes end the run and change nothing; the stream started afresh leaves what the unbroken one does")
         for k in range(len(two)):
             begin()

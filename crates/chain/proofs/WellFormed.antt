@@ -78,7 +78,7 @@ module _ (c : Chain) (g : List ℕ) (p : Place) where
         first-device = says (search reads) (row 6);
         second-in-6 = says (search reads) (row 7);
         control-before = says (search reads) (row 8);
-        control-written = says (search reads) (row 9);
+        control-taken = says (search reads) (row 9);
         control-checked = says (search reads) (row 10);
         at-0-to-6-and-13 = says (search reads) (row 11);
         at-7-to-12 = says (search reads) (row 12);
@@ -104,7 +104,7 @@ module _ (c : Chain) (g : List ℕ) (p : Place) where
       and said (search reads) (f .first-device)
       and said (search reads) (f .second-in-6)
       and said (search reads) (f .control-before)
-      and said (search reads) (f .control-written)
+      and said (search reads) (f .control-taken)
       and said (search reads) (f .control-checked)
       and said (search reads) (f .at-0-to-6-and-13)
       and said (search reads) (f .at-7-to-12)

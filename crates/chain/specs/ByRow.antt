@@ -23,10 +23,7 @@ held p count unused =
 abbrev pub noneOpen : Place → Bool
 noneOpen p = eqb (p .left) 0 && eqb (p .start) 0 && eqb (p .end) 0 && eqb (p .next) 0
 
--- a control byte that was taken: stored in a write, in a check with B3 clear
-abbrev pub stored : Place → ℕ → Bool
-stored p g = eqb (p .check) writing implies eqb (p .control) g
-
+-- a control byte that was taken in a check has B3 clear
 abbrev pub checkable : Place → Bool
 checkable p = eqb (p .check) checking implies not (B3 (p .control))
 
@@ -41,10 +38,10 @@ abbrev pub atControl : Place → Bool → ℕ → Bool
 atControl p h g = allOf (h ∷ eqb (p .control) 0 ∷ noneOpen p ∷ not (B4 g) ∷ (eqb (p .check) checking implies not (B3 g)) ∷ [])
 
 abbrev pub outside : Place → Bool → ℕ → Bool
-outside p h g = allOf (h ∷ stored p g ∷ checkable p ∷ noneOpen p ∷ [])
+outside p h g = allOf (h ∷ eqb (p .control) g ∷ checkable p ∷ noneOpen p ∷ [])
 
 abbrev pub inside : Place → Bool → ℕ → Bool → Bool
-inside p h g bounds = allOf (h ∷ stored p g ∷ checkable p ∷ leb 1 (p .left) ∷ bounds ∷ [])
+inside p h g bounds = allOf (h ∷ eqb (p .control) g ∷ checkable p ∷ leb 1 (p .left) ∷ bounds ∷ [])
 
 -- the bounds of the window, as far as they are taken
 abbrev pub noBounds : Place → Bool

@@ -26,8 +26,9 @@ zeros (x ∷ xs) = eqb x 0 && zeros xs
 unfoldable pub unusedZero : List ℕ → ℕ → Bool
 unusedZero xs n = zeros (drop n xs)
 
--- document 01's paragraph 'Well formed', sentence by sentence: p a place in a chain of count devices, unused whether the unused
--- registers are zero, g the stored register of the place's device, size its size. Length, form and zero bits are the saved place's own
+-- document 01's paragraph 'Well formed', sentence by sentence, the control byte as document 02 has it: p a place in a chain of count devices,
+-- unused whether the unused registers are zero, g the stored register of the place's device, size its size. Length, form and zero bits are
+-- the saved place's own
 abbrev pub formed : Place → ℕ → Bool → ℕ → ℕ → List Bool
 formed p count unused g size =
     from first-mode two-preambles (p .mode)
@@ -39,7 +40,7 @@ formed p count unused g size =
     ∷ (from at·preamble at·second (p .awaited) implies eqb (p .device) 0)
     ∷ (eqb (p .awaited) at·second implies eqb (p .mode) two-preambles)
     ∷ (leb (p .awaited) at·control implies eqb (p .control) 0)
-    ∷ (ltb at·control (p .awaited) && eqb (p .check) writing implies eqb (p .control) g)
+    ∷ (ltb at·control (p .awaited) implies eqb (p .control) g)
     ∷ (ltb at·control (p .awaited) && eqb (p .check) checking implies not (B3 (p .control)))
     ∷ (from at·preamble at·count (p .awaited) || eqb (p .awaited) at·check implies eqb (p .left) 0 && eqb (p .start) 0 && eqb (p .end) 0 && eqb (p .next) 0)
     ∷ (from at·null at·data (p .awaited) implies leb 1 (p .left))

@@ -52,9 +52,9 @@ pub record WellFormed (c : Chain) (registers : List ℕ) (p : Place) : Type 0 wh
   -- awaited 0 and 1 only on device 0, 1 only in mode 6
   pub first-device : Between at·preamble at·second (p .awaited) → p .device ≡ 0
   pub second-in-6 : p .awaited ≡ at·second → p .mode ≡ two-preambles
-  -- control byte 0 before it is taken; after, in a write, equal to the stored register, and in a check with B3 clear
+  -- control byte 0 before it is taken; after, equal to the stored register, and in a check with B3 clear
   pub control-before : p .awaited ≤ at·control → p .control ≡ 0
-  pub control-written : (at·control < p .awaited) × (p .check ≡ writing) → p .control ≡ placeRegister registers p
+  pub control-taken : at·control < p .awaited → p .control ≡ placeRegister registers p
   pub control-checked : (at·control < p .awaited) × (p .check ≡ checking) → Sets bit3 (p .control) → ⊥
   -- by awaited byte
   pub at-0-to-6-and-13 : Between at·preamble at·count (p .awaited) ⊎ (p .awaited ≡ at·check)

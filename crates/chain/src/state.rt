@@ -73,10 +73,7 @@ fn at_control(p: Place, h: bool, g: u8) -> bool
 fn outside_windows(p: Place, h: bool, g: u8) -> bool
     ensures { λ r. ⌜ r ≡ outside p h g ⌝ }
 {
-    h
-        & (!(p.check == WRITING) | (p.control == g))
-        & (!(p.check == CHECKING) | !(p.control / BIT_3 % 2 == 1))
-        & none_open(p)
+    h & (p.control == g) & (!(p.check == CHECKING) | !(p.control / BIT_3 % 2 == 1)) & none_open(p)
 }
 
 // A window is open, whose bounds are as they have to be here.
@@ -84,7 +81,7 @@ fn inside_window(p: Place, h: bool, g: u8, bounds: bool) -> bool
     ensures { λ r. ⌜ r ≡ inside p h g bounds ⌝ }
 {
     h
-        & (!(p.check == WRITING) | (p.control == g))
+        & (p.control == g)
         & (!(p.check == CHECKING) | !(p.control / BIT_3 % 2 == 1))
         & (1 <= p.left)
         & bounds

@@ -14,13 +14,13 @@ use Rattle.grammar.specs.Stream.{Section, streamSent}
 use Rattle.grammar.specs.Fits.{Fitting}
 use Rattle.demands.specs.Loader.{Loader, Idle, Mode}
 use Rattle.demands.specs.Demand1.{Demand1}
-use Rattle.demands.specs.Demand2.{joined, ran}
+use Rattle.demands.specs.Demand2.{joined, ran, Demand2f}
 use Rattle.demands.specs.Second.{Demand2}
 use Rattle.demands.specs.Demand3.{Demand3}
 use Rattle.demands.specs.WherePreamble.{Where, SaysWhere}
 use Rattle.demands.specs.Ours.{ours}
 use Rattle.demands.specs.Cases.{table, All}
-use Rattle.demands.specs.Wrong.{constant, idle, taking, undoing, eager, exclusiveEnd, plainCount, barring, checkWrites, earlierWins, shortClosing, offsetsFromFirst, leftBefore, fromOne, toldRefused}
+use Rattle.demands.specs.Wrong.{constant, idle, taking, undoing, eager, exclusiveEnd, plainCount, barring, checkWrites, unloading, loadingFirst, earlierWins, shortClosing, offsetsFromFirst, leftBefore, fromOne, toldRefused}
 use Rattle.demands.proofs.Demand1.{demand1}
 use Rattle.demands.proofs.Demand2.{demand2}
 use Rattle.demands.proofs.loads.TwelveCases.{twelve}
@@ -28,7 +28,7 @@ use Rattle.demands.proofs.stops.StopsRight.{demand3}
 use Rattle.demands.proofs.WherePreamble.{where-began, where-only}
 use Rattle.demands.proofs.wrong.Shut.{constant-out, idle-out, taken-out, per-slice-out}
 use Rattle.demands.proofs.wrong.Eager.{eager-out}
-use Rattle.demands.proofs.wrong.Readings.{exclusive-end-out, plain-count-out, barring-out, check-writes-out, earlier-wins-out, undoing-out, short-closing-out, offsets-out}
+use Rattle.demands.proofs.wrong.Readings.{exclusive-end-out, plain-count-out, barring-out, check-writes-out, unloading-out, loading-first-out, earlier-wins-out, undoing-out, short-closing-out, offsets-out}
 use Rattle.demands.proofs.wrong.HuntFigures.{left-before-out, from-one-out, told-refused-out}
 
 -- 1. 'It takes every byte string, mode, chain and saved place. Public calls ask nothing of the caller. Each refusal has its number in
@@ -36,9 +36,10 @@ use Rattle.demands.proofs.wrong.HuntFigures.{left-before-out, from-one-
 pub every-input : Demand1
 every-input = demand1
 
--- 2. 'It loads and checks as the maker's AT6000 configuration guide says, in the reading of document 01' (a), (d), (e), (f). 'A stream written
--- from a window list loads, where B4 was clear before, as those windows, later over earlier, and lists as the same windows' (b); 'an accepted
--- one-device stream, listed and written again, gives its own bytes up to its postamble, lead-in and null bytes apart' (c)
+-- 2. 'It loads and checks as the maker's AT6000 configuration guide says, in the reading of document 01' (a), (d), (e), (f), as document 02 amends
+-- it. 'A stream written from a window list loads, where B4 was clear before, as those windows, later over earlier, and lists as the same
+-- windows' (b); 'an accepted one-device stream, listed and written again, gives its own bytes up to its postamble, lead-in and null bytes
+-- apart' (c)
 pub loads-and-checks : Demand2 ours
 loads-and-checks = demand2
 
@@ -61,6 +62,11 @@ preamble-began = where-began
 -- and what is said leaves a loader no other p, left or length
 pub began-once : (s : List ℕ) (g h : Hunted) → Where s g → Where s h → (g .p ≡ h .p) × (g .left ≡ h .left) × (g .length ≡ h .length)
 began-once = where-only
+
+-- Document 02, wish 5: 'From now on a check stores the control byte too, after the test for 7.' What a check of any bytes leaves, in any cut,
+-- ended or not. CheckBars has one whose B4 bars the next run
+pub check-leaves : Demand2f ours
+check-leaves = demand2 .f
 
 -- The twelve cases of the paper, one table
 pub twelve-cases : All 1 table
@@ -88,6 +94,9 @@ pub record ShutOut : Type 0 where
   pub own-bar : Demand2 barring → ⊥
   pub check-writes : Demand2 checkWrites → ⊥
   pub earlier-wins : Demand2 earlierWins → ⊥
+  -- document 02, wish 5: a check that loads nothing; a check that loads before the test for 7
+  pub check-unloaded : Demand2 unloading → ⊥
+  pub check-loads-first : Demand2 loadingFirst → ⊥
   -- closing bytes one short; offsets from the stream's first byte
   pub closing-short : Demand3 shortClosing → ⊥
   pub offsets-first : Demand2 offsetsFromFirst → ⊥
@@ -109,6 +118,8 @@ shut-out =
       own-bar = λ d. barring-out (d .a);
       check-writes = λ d. check-writes-out (d .f);
       earlier-wins = λ d. earlier-wins-out (d .a);
+      check-unloaded = λ d. unloading-out (d .a);
+      check-loads-first = λ d. loading-first-out (d .d);
       closing-short = short-closing-out;
       offsets-first = λ d. offsets-out (d .b);
       left-before = left-before-out;

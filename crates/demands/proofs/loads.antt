@@ -5,6 +5,7 @@ pub mod Cuts
 pub mod FittingLoads
 pub mod AcceptedFits
 pub mod LastByteTaken
-pub mod CheckStoresNothing
+pub mod CheckLeaves
 pub mod StreamA
+pub mod CheckBars
 pub mod TwelveCases

@@ -1,5 +1,6 @@
 -- The second demand, the clauses about feeding bytes: (a) a stream that fits loads as its windows, later over earlier, or is checked
--- against them; (d) the byte that ends a run changes nothing; (e) what is accepted fits; (f) a check stores nothing. Assumes nothing.
+-- against them; (d) the byte that ends a run changes nothing; (e) what is accepted fits; (f) a check changes no cell, and as far as it goes on
+-- leaves the registers that a write leaves. Assumes nothing.
 use Prim.Native.Nat.{ℕ, suc, _+_, _%_, _^_, _<_}
 use mathlib.Core.Bool.{false}
 use mathlib.Core.Path.{_≡_}
@@ -7,16 +8,19 @@ use mathlib.Core.List.{List, [], _∷_, _++_}
 use lib.Dec.{eqb}
 use lib.ListN.{length, getD, take}
 use Rattle.chain.specs.declared.Chain.{Chain}
-use Rattle.chain.specs.Paper.{closed, opened, writing, done, more}
+use Rattle.chain.specs.Paper.{closed, opened, writing, done, more, B3}
 use Rattle.chain.specs.Rules.{pick}
+use Rattle.chain.specs.Set.{with·place}
 use Rattle.grammar.specs.Sent.{memory, registers, Sent, lastTo, bytesOf, unlikes}
 use Rattle.demands.specs.Loader.{Loader, AfterSlice, Idle, Mode}
 use Rattle.chain.specs.Bytes.{Bytes}
 use Rattle.grammar.specs.Stream.{Section, streamSent}
 use Rattle.grammar.specs.Fits.{AllLet, Fitting, Reading}
+use Rattle.grammar.specs.Stores.{walkOf}
+use Rattle.machine.specs.Calls.{openedPlace}
 
--- what is seen once the front part xs of a stream was fed: a write stored each byte where it was meant for; a check stored nothing,
--- loaded no register and counted the data bytes unlike their cells
+-- what is seen once the front part xs of a stream was fed: each control byte was loaded; a write stored each data byte where it was meant
+-- for; a check changed no cell and counted the data bytes unlike theirs
 pub record Seen (check : ℕ) (c : Chain) (m : List ℕ) (xs : List Sent) (n : ℕ) (a : AfterSlice) : Type 0 where
   pub number : a .fed .answer .number ≡ n
   pub taken : a .fed .answer .taken ≡ length xs
@@ -24,7 +28,7 @@ pub record Seen (check : ℕ) (c : Chain) (m : List ℕ) (xs : List Sent) (n : �
   pub cells : (i : ℕ) → i < length m → getD (a .memory) i 0 ≡ pick (eqb check writing) (lastTo memory xs i (getD m i 0)) (getD m i 0)
   pub cells-many : length (a .memory) ≡ length m
   pub regs : (d : ℕ) → d < length (c .registers)
-      → getD (a .fed .chain .registers) d 0 ≡ pick (eqb check writing) (lastTo registers xs d (getD (c .registers) d 0)) (getD (c .registers) d 0)
+      → getD (a .fed .chain .registers) d 0 ≡ lastTo registers xs d (getD (c .registers) d 0)
   pub regs-many : length (a .fed .chain .registers) ≡ length (c .registers)
   pub count : a .fed .chain .count ≡ c .count
   pub kinds : a .fed .chain .kinds ≡ c .kinds
@@ -86,7 +90,21 @@ Demand2e l = (c : Chain) (m : List ℕ) (check mode : ℕ) (ps : List (List ℕ)
     → ran l check mode c m ps last .fed .answer .number ≡ done
     → LetIn check mode c (take (ran l check mode c m ps last .fed .answer .taken) (joined ps ++ last))
 
+-- a is what a check of the bytes bs left, b what a write of them leaves, cut alike. The check changed no cell; each register holds the last control
+-- byte that the machine takes for it, or its old value, also where the run has ended. So B3 is as it was in each: a device that has it stored is
+-- not begun, and a control byte that sets it is not taken (7). And as long as the check goes on, so does the write, and leaves the same registers
+pub record Checked (check mode : ℕ) (c : Chain) (m bs : List ℕ) (a b : AfterSlice) : Type 0 where
+  pub cells : a .memory ≡ m
+  pub count : a .fed .chain .count ≡ c .count
+  pub kinds : a .fed .chain .kinds ≡ c .kinds
+  pub regs : (d : ℕ) → d < length (c .registers)
+      → getD (a .fed .chain .registers) d 0 ≡ lastTo registers (walkOf (with·place c (openedPlace mode check)) bs) d (getD (c .registers) d 0)
+  pub regs-many : length (a .fed .chain .registers) ≡ length (c .registers)
+  pub b3 : (d : ℕ) → B3 (getD (a .fed .chain .registers) d 0) ≡ B3 (getD (c .registers) d 0)
+  pub goes-on : a .fed .answer .number ≡ more → b .fed .answer .number ≡ more
+  pub as-written : a .fed .answer .number ≡ more → a .fed .chain .registers ≡ b .fed .chain .registers
+
 -- a check, whatever it is fed and whatever it answers
 abbrev pub Demand2f : Loader → Type 0
-Demand2f l = (c : Chain) (m : List ℕ) (check mode : ℕ) (ps : List (List ℕ)) (last : List ℕ) → Idle c m → Mode mode → eqb check writing ≡ false
-    → Kept c m (ran l check mode c m ps last)
+Demand2f l = (c : Chain) (m : List ℕ) (check mode : ℕ) (ps : List (List ℕ)) (last : List ℕ) → Idle c m → Mode mode → Bytes (joined ps ++ last)
+    → eqb check writing ≡ false → Checked check mode c m (joined ps ++ last) (ran l check mode c m ps last) (ran l writing mode c m ps last)

@@ -12,7 +12,7 @@ use Rattle.chain.specs.Output.{onDone}
 use Rattle.chain.specs.Set.{with·check, with·awaited, with·left, with·end, with·place}
 use Rattle.chain.specs.State.{feedNumber}
 use Rattle.awaited.specs.Byte.{awaits}
-use Rattle.machine.specs.Run.{writes, addressOf, ended, Run, run, stepOf}
+use Rattle.machine.specs.Run.{writes, addressOf, registersOf, ended, Run, run, stepOf}
 use Rattle.machine.specs.Calls.{answered, fedOf}
 use Rattle.hunt.specs.declared.Hunted.{Hunted}
 use Rattle.hunt.specs.Hunt.{foundAt}
@@ -66,6 +66,10 @@ bent f =
 abbrev pub moved : Run → Place → Run
 moved t p = run (with·place (t .chain) p) (t .memory) (t .number)
 
+-- a run that left other registers
+abbrev pub loaded : Run → List ℕ → Run
+loaded t g = run (record { count = t .chain .count; kinds = t .chain .kinds; registers = g; place = t .chain .place }) (t .memory) (t .number)
+
 -- at the first data byte of a window the memory becomes what f makes of it, the bytes not given yet made up; idle through the rest
 abbrev pub eager : (Chain → List ℕ → ℕ → List ℕ) → Loader
 eager f = bent (λ c m b t. run (t .chain) (pick (awaits c at·data && writes c && eqb (c .place .next) (c .place .start)) (f c m b) m) (t .number))
@@ -92,6 +96,16 @@ checkWrites = bent (λ c m b t. pick (eqb (t .number) no-check) (stepOf (with·p
 -- of overlapping windows the earlier wins: a cell that is not zero is stored no more
 abbrev pub earlierWins : Loader
 earlierWins = bent (λ c m b t. pick (awaits c at·data && writes c && not (eqb (getD m (addressOf c) 0) 0)) (run (t .chain) m (t .number)) t)
+
+-- ---- document 02, wish 5: the registers of a check
+
+-- a check that loads nothing
+abbrev pub unloading : Loader
+unloading = bent (λ c m b t. pick (writes c) t (loaded t (c .registers)))
+
+-- a check that loads its control byte before the test for 7
+abbrev pub loadingFirst : Loader
+loadingFirst = bent (λ c m b t. pick (eqb (t .number) no-check) (loaded t (registersOf c b)) t)
 
 -- ---- other calls
 

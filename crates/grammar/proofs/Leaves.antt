@@ -1,5 +1,5 @@
--- What a run from its start leaves, once its walk is known: the same devices, the bytes of the walk taken, in a write each cell and register
--- with the last byte sent to it, in a check all as it was and the data bytes unlike their cells counted. Assumes nothing.
+-- What a run from its start leaves, once its walk is known: the same devices, the bytes of the walk taken, each register with the last byte
+-- sent to it, in a write each cell likewise, in a check all cells as they were and the data bytes unlike them counted. Assumes nothing.
 use Prim.Native.Nat.{ℕ, _%_, _+_, _^_, _<_}
 use mathlib.Core.Bool.{Bool, true, false}
 use mathlib.Core.Path.{_≡_, refl, ap, _∙_}
@@ -17,9 +17,9 @@ use Rattle.awaited.specs.Byte.{checks}
 use Rattle.machine.specs.Run.{writes, Run, run, runOf}
 use Rattle.machine.specs.Calls.{openedPlace}
 use Rattle.machine.proofs.Runs.{run-lasts}
-use Rattle.grammar.specs.Sent.{Sent, Store, memory, registers, lastTo, unlikes}
-use Rattle.grammar.specs.Stores.{walkOf, changes}
-use Rattle.grammar.proofs.Walk.{putAll, storeOf, run-stores}
+use Rattle.grammar.specs.Sent.{Sent, memory, registers, lastTo, unlikes}
+use Rattle.grammar.specs.Stores.{walkOf}
+use Rattle.grammar.proofs.Walk.{putAll, run-stores}
 use Rattle.grammar.proofs.LastByte.{getD-putAll}
 use Rattle.grammar.proofs.StreamShort.{unlikes-few}
 use Rattle.grammar.proofs.Counts.{taken-walk, check-counts, write-counts}
@@ -32,13 +32,14 @@ pub record Leaves (check : ℕ) (c : Chain) (m : List ℕ) (xs : List Sent) (r :
   pub cells : (i : ℕ) → i < length m → getD (r .memory) i 0 ≡ pick (eqb check writing) (lastTo memory xs i (getD m i 0)) (getD m i 0)
   pub cells-many : length (r .memory) ≡ length m
   pub regs : (d : ℕ) → d < length (c .registers)
-      → getD (r .chain .registers) d 0 ≡ pick (eqb check writing) (lastTo registers xs d (getD (c .registers) d 0)) (getD (c .registers) d 0)
+      → getD (r .chain .registers) d 0 ≡ lastTo registers xs d (getD (c .registers) d 0)
   pub regs-many : length (r .chain .registers) ≡ length (c .registers)
 
--- a store after a write, and after a check
-module _ (k : Store) (xs : List Sent) (l : List ℕ) where
-  stored : (q : Bool) (i : ℕ) → i < length l → getD (pick q (putAll k xs l) l) i 0 ≡ pick q (lastTo k xs i (getD l i 0)) (getD l i 0)
-  stored true i h = getD-putAll k xs l i h
+-- memory after a write, and after a check
+module _ (xs : List Sent) (l : List ℕ) where
+  stored : (q : Bool) (i : ℕ) → i < length l
+      → getD (putAll memory (pick q xs []) l) i 0 ≡ pick q (lastTo memory xs i (getD l i 0)) (getD l i 0)
+  stored true i h = getD-putAll memory xs l i h
   stored false i h = refl
 
 module _ (check mode : ℕ) (c : Chain) (m bs : List ℕ) (xs : List Sent) where
@@ -52,21 +53,15 @@ module _ (check mode : ℕ) (c : Chain) (m bs : List ℕ) (xs : List Sent) where
   checks-is : eqb check writing ≡ false → checks begun ≡ true
   checks-is e = rw e
 
-  changes-is : (k : Store) → changes k begun ≡ eqb check writing
-  changes-is memory = writes-is
-  changes-is registers = writes-is
-
   module _ (s : walkOf begun bs ≡ xs) where
-    store-is : (k : Store) → storeOf k (runOf (run begun m more) bs) ≡ pick (eqb check writing) (putAll k xs (storeOf k (run begun m more))) (storeOf k (run begun m more))
-    store-is k =
-        run-stores k bs begun m
-        ∙ ap (λ (q : Bool). putAll k (pick q (walkOf begun bs) []) (storeOf k (run begun m more))) (changes-is k)
-        ∙ either (eqb check writing)
-      where
-        either : (q : Bool) → putAll k (pick q (walkOf begun bs) []) (storeOf k (run begun m more))
-            ≡ pick q (putAll k xs (storeOf k (run begun m more))) (storeOf k (run begun m more))
-        either true = ap (λ (ys : List Sent). putAll k ys (storeOf k (run begun m more))) s
-        either false = refl
+    memory-is : runOf (run begun m more) bs .memory ≡ putAll memory (pick (eqb check writing) xs []) m
+    memory-is =
+        run-stores memory bs begun m
+        ∙ ap (λ (q : Bool). putAll memory (pick q (walkOf begun bs) []) m) writes-is
+        ∙ ap (λ (ys : List Sent). putAll memory (pick (eqb check writing) ys []) m) s
+
+    registers-are : runOf (run begun m more) bs .chain .registers ≡ putAll registers xs (c .registers)
+    registers-are = run-stores registers bs begun m ∙ ap (λ (ys : List Sent). putAll registers ys (c .registers)) s
 
     missed : length xs < 2 ^ 32 → runOf (run begun m more) bs .chain .place .mismatches ≡ pick (eqb check writing) 0 (unlikes m xs)
     missed h =
@@ -86,8 +81,8 @@ module _ (check mode : ℕ) (c : Chain) (m bs : List ℕ) (xs : List Sent) where
           kinds = l .kinds;
           taken = taken-walk bs begun m refl ∙ ap (λ (ys : List Sent). length ys % 2 ^ 32) s ∙ mod-eq-of-lt h;
           mismatches = missed h;
-          cells = λ i g. ap (λ (x : List ℕ). getD x i 0) (store-is memory) ∙ stored memory xs m (eqb check writing) i g;
+          cells = λ i g. ap (λ (x : List ℕ). getD x i 0) memory-is ∙ stored xs m (eqb check writing) i g;
           cells-many = l .memory;
-          regs = λ d g. ap (λ (x : List ℕ). getD x d 0) (store-is registers) ∙ stored registers xs (c .registers) (eqb check writing) d g;
+          regs = λ d g. ap (λ (x : List ℕ). getD x d 0) registers-are ∙ getD-putAll registers xs (c .registers) d g;
           regs-many = l .registers;
         }

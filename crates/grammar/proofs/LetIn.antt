@@ -1,8 +1,8 @@
 -- Each device that an accepted run meets let it in: numbers 6 and 7, which were not given, tell so of each control byte of the run's walk,
 -- and so of each section of any reading of it. Assumes nothing.
-use Prim.Native.Nat.{ℕ, zero, suc, _+_, _-_, _≤_}
-use mathlib.Core.Bool.{Bool, true, false, _&&_, _||_, and-false, true≢false}
-use mathlib.Core.Path.{_≡_, refl, ap, sym, subst, _∙_}
+use Prim.Native.Nat.{ℕ, zero, suc, _-_, _≤_}
+use mathlib.Core.Bool.{Bool, true, false, _&&_, _||_, true≢false}
+use mathlib.Core.Path.{_≡_, refl, sym, subst, _∙_}
 use mathlib.Core.List.{List, [], _∷_, _++_}
 use native.Mathlib.Omega.{arith}
 use lib.Dec.{eqb}
@@ -25,11 +25,11 @@ use Rattle.grammar.proofs.runs.Keeps.{went-sound}
 use Rattle.machine.proofs.Runs.{registers-length}
 use Rattle.grammar.proofs.runs.Stays.{went-stays}
 use Rattle.grammar.specs.Stream.{baseAt, Window, Section, windowsSent, sectionsSent, leadSent, streamSent}
-use Rattle.grammar.specs.Sent.{Target, framing, register, cell, Sent, frame, registers, slot}
+use Rattle.grammar.specs.Sent.{Target, framing, register, cell, Sent, frame, registers, Slot, slot}
 use Rattle.chain.specs.Bytes.{Bytes}
 use Rattle.grammar.specs.Fits.{Lets, AllLet}
 use Rattle.grammar.specs.Stores.{aim, walkOf}
-use Rattle.grammar.proofs.Walk.{put}
+use Rattle.grammar.proofs.Walk.{put, byte-stores}
 use Rattle.grammar.proofs.Accepted.{Accepted, last, next}
 use Rattle.grammar.proofs.FitsAccepted.{lets-alike}
 
@@ -46,30 +46,14 @@ At w g framing b = Unit {0}
 At w g (register d) b = LetBy w (getD g d 0) b
 At w g (cell i) b = Unit {0}
 
--- the registers after a byte
-abbrev then-registers : Bool → List ℕ → Target → ℕ → List ℕ
-then-registers w g t b = pick w (put (slot registers t) b g) g
-
 -- each control byte by the registers as they stand when it comes
 abbrev pub LetAlong : Bool → List ℕ → List Sent → Type 0
 LetAlong w g [] = Unit {0}
-LetAlong w g (x ∷ xs) = At w g (x .to) (x .byte) × LetAlong w (then-registers w g (x .to) (x .byte)) xs
+LetAlong w g (x ∷ xs) = At w g (x .to) (x .byte) × LetAlong w (put (slot registers (x .to)) (x .byte) g) xs
 
 -- ---- the machine's walk is such
 
 module _ (c : Chain) (b : ℕ) where
-  loaded : registersOf c b ≡ then-registers (writes c) (c .registers) (aim c) b
-  unfolding registersOf
-  loaded =
-      by-test (writes c)
-      (λ w. rw w
-      (by-test (awaits c at·data)
-      (λ e.
-      let f : awaits c at·control ≡ false = ap (λ (x : ℕ). eqb x at·control) (eqb-true (c .place .awaited) at·data e) in
-      rw (e, f))
-      (λ e. rw e (by-test (awaits c at·control) (λ f. rw f) (λ f. rw f)))))
-      (λ w. rw (w, and-false (awaits c at·control)))
-
   checked : (w : writes c ≡ false) → c .place .check ≤ checking → c .place .check ≡ checking
   checked w h = go (c .place .check) w h
     where
@@ -112,7 +96,7 @@ walk-let (b ∷ x ∷ bs) c len s l u (next e a) =
     let r = walk-let (x ∷ bs) (wentOn c [] b) len (went-sound c [] b len (u .0) l e s) (registers-length c [] b ∙ l) (u .1) a in
     rw e (
       lets-now c b len s e,
-      subst (λ (g : List ℕ). LetAlong (writes c) g (walkOf (wentOn c [] b) (x ∷ bs))) (loaded c b)
+      subst (λ (g : List ℕ). LetAlong (writes c) g (walkOf (wentOn c [] b) (x ∷ bs))) (byte-stores c [] b registers refl)
           (subst (λ (k : ℕ). LetAlong (eqb k writing) (registersOf c b) (walkOf (wentOn c [] b) (x ∷ bs))) (went-stays c [] b .check) r),
     )
 
@@ -125,19 +109,10 @@ Plain = Each (λ t b. slot registers t ≡ slot registers framing)
 plain-windows : (base : ℕ) (ws : List Window) → Plain (windowsSent base ws)
 plain-windows = each-windows (λ t b. slot registers t ≡ slot registers framing) (λ b. refl) (λ i b. refl)
 
-same-registers : (w : Bool) (g : List ℕ) (t : Target) (b : ℕ) → slot registers t ≡ slot registers framing → then-registers w g t b ≡ g
-same-registers true g t b e = rw e refl
-same-registers false g t b e = refl
-
 past-plain : (w : Bool) (g : List ℕ) (xs ys : List Sent) → Plain xs → LetAlong w g (xs ++ ys) → LetAlong w g ys
 past-plain w g [] ys p h = h
 past-plain w g (x ∷ xs) ys p h =
-    past-plain w g xs ys (p .1) (subst (λ (k : List ℕ). LetAlong w k (xs ++ ys)) (same-registers w g (x .to) (x .byte) (p .0)) (h .1))
-
--- a control byte that is loaded leaves the registers of the devices after it
-loaded-alike : (q : Bool) (g : List ℕ) (d b e : ℕ) → suc d ≤ e → getD (pick q (set g d b) g) e 0 ≡ getD g e 0
-loaded-alike true g d b e l = getD-set-other g d e b 0 (λ z. omega arith)
-loaded-alike false g d b e l = refl
+    past-plain w g xs ys (p .1) (subst (λ (t : Slot). LetAlong w (put t (x .byte) g) (xs ++ ys)) (p .0) (h .1))
 
 lets-of : (check stored control : ℕ) → LetBy (eqb check writing) stored control → Lets check stored control
 lets-of check stored control h = record { b4 = h .b4; b3 = h .b3; sent-b3 = h .sent-b3 }
@@ -146,13 +121,13 @@ sections-let : (c : Chain) (check : ℕ) (g : List ℕ) (d : ℕ) (s : Section) 
     → AllLet check g d s ss
 sections-let c check g d s [] h = lets-of check (getD g d 0) (s .control) (h .0)
 sections-let c check g d s (t ∷ ts) h =
-    let g′ : List ℕ = pick (eqb check writing) (set g d (s .control)) g in
+    let g′ : List ℕ = set g d (s .control) in
     let head : List Sent =
     frame (s .address0) ∷ frame (s .address1) ∷ frame (s .address2) ∷ frame (no-windows - length (s .windows)) ∷ windowsSent (baseAt c d) (s .windows) in
     let past = past-plain (eqb check writing) g′ head (frame preamble ∷ sectionsSent c (suc d) t ts)
     (refl, (refl, (refl, (refl, plain-windows (baseAt c d) (s .windows))))) (h .1) in (
       lets-of check (getD g d 0) (s .control) (h .0),
-      lets-alike check g′ g (suc d) t ts (λ e l. sym (loaded-alike (eqb check writing) g d (s .control) e l))
+      lets-alike check g′ g (suc d) t ts (λ e l. sym (getD-set-other g d e (s .control) 0 (λ z. omega arith)))
           (sections-let c check g′ (suc d) t ts (past-plain (eqb check writing) g′ (frame preamble ∷ []) (sectionsSent c (suc d) t ts) (refl, tt) past)),
     )
 

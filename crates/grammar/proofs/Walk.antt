@@ -1,7 +1,7 @@
 -- Memory and registers after any bytes, fed into any state, are those before with what the run stores put into them in order. The walk
 -- that says so does not depend on memory, and the walk over a front part is the front part of the walk. Assumes nothing.
 use Prim.Native.Nat.{ℕ, zero, suc, _%_, _+_, _^_}
-use mathlib.Core.Bool.{true, false}
+use mathlib.Core.Bool.{true, false, true≢false}
 use mathlib.Core.Path.{_≡_, refl, ap, sym, _∙_}
 use mathlib.Core.List.{List, [], _∷_}
 use lib.Dec.{eqb}
@@ -15,7 +15,7 @@ use Rattle.awaited.specs.Byte.{awaits, numberOf}
 use Rattle.machine.specs.Run.{writes, addressOf, memoryOf, registersOf, missedOf, counted, ended, Run, run, wentOn, runOf}
 use Rattle.grammar.proofs.runs.Blind.{still, went-still}
 use Rattle.machine.proofs.Frame.{advance-frame}
-use Rattle.grammar.proofs.runs.Kept.{unwritten-run, unloaded-run}
+use Rattle.grammar.proofs.runs.Kept.{unwritten-run}
 use Rattle.machine.proofs.Runs.{run-went, run-ended}
 use Rattle.grammar.specs.Sent.{Target, framing, register, cell, Sent, frame, Store, memory, registers, Slot, no-slot, index, slot}
 use Rattle.grammar.specs.Stores.{aim, walkOf, changes, storedOf, putOf, putsIn, putsOf, putInto}
@@ -78,7 +78,7 @@ storeOf registers r = r .chain .registers
 -- a write changes both
 pub write-changes : (k : Store) (c : Chain) → writes c ≡ true → changes k c ≡ true
 write-changes memory c w = w
-write-changes registers c w = w
+write-changes registers c w = refl
 
 module _ (c : Chain) (m : List ℕ) (b : ℕ) where
   pub byte-stores : (k : Store) → changes k c ≡ true
@@ -92,12 +92,12 @@ module _ (c : Chain) (m : List ℕ) (b : ℕ) where
       (λ e.
       let f : awaits c at·control ≡ false = ap (λ (x : ℕ). eqb x at·control) (eqb-true (c .place .awaited) at·data e) in
       rw (e, f))
-      (λ e. rw e (by-test (awaits c at·control) (λ f. rw (f, w)) (λ f. rw f)))
+      (λ e. rw e (by-test (awaits c at·control) (λ f. rw f) (λ f. rw f)))
 
   -- a run stays a write or a check
   pub byte-changes : (k : Store) → changes k c ≡ true → changes k (wentOn c m b) ≡ true
   byte-changes memory w = rw (advance-frame (counted (c .place) 1 (missedOf c m b)) b .check) w
-  byte-changes registers w = rw (advance-frame (counted (c .place) 1 (missedOf c m b)) b .check) w
+  byte-changes registers w = refl
 
   end-stores : (k : Store) (n : ℕ) → storeOf k (run (ended c) m n) ≡ storeOf k (run c m more)
   end-stores memory n = refl
@@ -124,7 +124,7 @@ walk-stores k (b ∷ bs) c m w =
 
 unchanged : (k : Store) (bs : List ℕ) (c : Chain) (m : List ℕ) → changes k c ≡ false → storeOf k (runOf (run c m more) bs) ≡ storeOf k (run c m more)
 unchanged memory bs c m w = unwritten-run bs (run c m more) w
-unchanged registers bs c m w = unloaded-run bs (run c m more) w
+unchanged registers bs c m w = absurd (true≢false w)
 
 -- a store after a run is the store before, with what the run stores put into it in order
 pub run-stores : (k : Store) (bs : List ℕ) (c : Chain) (m : List ℕ)

@@ -1,7 +1,7 @@
 -- What a run stores, read off the chain, its place and the bytes alone, never off memory: each byte with where the machine puts it, and of
 -- these the cells and bytes that are stored. Assumes nothing.
 use Prim.Native.Nat.{ℕ}
-use mathlib.Core.Bool.{Bool}
+use mathlib.Core.Bool.{Bool, true}
 use mathlib.Core.List.{List, [], _∷_}
 use lib.Dec.{eqb}
 use lib.ListN.{set}
@@ -9,7 +9,7 @@ use Rattle.chain.specs.declared.Chain.{Chain}
 use Rattle.chain.specs.Paper.{at·control, at·data, more}
 use Rattle.chain.specs.Rules.{pick}
 use Rattle.awaited.specs.Byte.{awaits, numberOf}
-use Rattle.machine.specs.Run.{writes, loads, addressOf, wentOn}
+use Rattle.machine.specs.Run.{writes, addressOf, wentOn}
 use Rattle.grammar.specs.Sent.{Target, framing, register, cell, Sent, frame, Store, memory, registers}
 
 -- where the machine puts the byte that it awaits
@@ -21,10 +21,10 @@ unfoldable pub walkOf : Chain → List ℕ → List Sent
 walkOf c [] = []
 walkOf c (b ∷ bs) = pick (eqb (numberOf c b) more) (record { byte = b; to = aim c } ∷ walkOf (wentOn c [] b) bs) (frame b ∷ [])
 
--- which runs change a store: writes change both
+-- which runs change a store: a write both, a check the registers alone
 abbrev pub changes : Store → Chain → Bool
 changes memory c = writes c
-changes registers c = loads c
+changes registers c = true
 
 -- the bytes that a run puts into a store, each with where it goes
 abbrev pub storedOf : Store → Chain → List ℕ → List Sent

@@ -13,7 +13,7 @@ use Rattle.chain.specs.Paper.{at·control, at·data, more}
 use Rattle.chain.specs.Bytes.{Bytes}
 use Rattle.chain.proofs.ByCases.{by-test, either-way}
 use Rattle.awaited.specs.Byte.{awaits, numberOf}
-use Rattle.machine.specs.Run.{addressOf, memoryOf, writes, loads, registersOf, ended, Run, run, wentOn, stepOf, onByte, runOf}
+use Rattle.machine.specs.Run.{addressOf, memoryOf, writes, registersOf, ended, Run, run, wentOn, stepOf, onByte, runOf}
 use Rattle.machine.proofs.Feed.{run-over}
 
 module _ (c : Chain) (m : List ℕ) (b : ℕ) where
@@ -90,7 +90,7 @@ pub record Lasts (r s : Run) : Type 0 where
 module _ (c : Chain) (b : ℕ) where
   pub registers-either : (P : List ℕ → Type 0) → P (set (c .registers) (c .place .device) b) → P (c .registers) → P (registersOf c b)
   unfolding registersOf
-  registers-either P h k = either-way P (awaits c at·control && loads c) (set (c .registers) (c .place .device) b) (c .registers) h k
+  registers-either P h k = either-way P (awaits c at·control) (set (c .registers) (c .place .device) b) (c .registers) h k
 
   -- no byte loads the register of a later device
   pub registers-later : (e : ℕ) → c .place .device < e → getD (registersOf c b) e 0 ≡ getD (c .registers) e 0

@@ -21,17 +21,13 @@ writes c = eqb (c .place .check) writing
 unfoldable pub addressOf : Chain → ℕ
 addressOf c = baseOf (c .kinds) (c .place .device) + c .place .next
 
--- in a write a data byte is stored in its cell at once; a check stores nothing
+-- in a write a data byte is stored in its cell at once; a check stores none
 unfoldable pub memoryOf : Chain → List ℕ → ℕ → List ℕ
 memoryOf c m b = pick (awaits c at·data && writes c) (set m (addressOf c) b) m
 
--- which runs load the register: writes. A check loads none
-abbrev pub loads : Chain → Bool
-loads c = writes c
-
--- the control byte is loaded when taken
+-- the control byte is loaded when taken, in a write and in a check
 unfoldable pub registersOf : Chain → ℕ → List ℕ
-registersOf c b = pick (awaits c at·control && loads c) (set (c .registers) (c .place .device) b) (c .registers)
+registersOf c b = pick (awaits c at·control) (set (c .registers) (c .place .device) b) (c .registers)
 
 -- 1 where a check's data byte differs from its cell
 unfoldable pub missedOf : Chain → List ℕ → ℕ → ℕ

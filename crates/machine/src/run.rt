@@ -63,17 +63,14 @@ fn cell(mem: &[u8], at: usize) -> u8
     if at < mem.len() { mem[at] } else { 0 }
 }
 
-// In a write the control byte is loaded.
+// The control byte is loaded.
 fn registers_after(c: Chain, b: u8) -> [u8; 8]
     ensures { λ r. ⌜ r ≡ registersOf c b ⌝ }
 {
     let p = c.place;
     let rs = c.registers;
     if p.awaited == AT_CONTROL {
-        if p.check == WRITING {
-            return with8(rs, p.device, b);
-        }
-        return rs;
+        return with8(rs, p.device, b);
     }
     rs
 }

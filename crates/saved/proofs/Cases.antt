@@ -18,7 +18,7 @@ pub stopped-bytes : savedBytes (replicate 8 0) stopped
 unfolding savedIn
 stopped-bytes = refl
 
--- a check in the third device, no byte of which is like another's
+-- a check in the third device, no byte of which is like another's but the control byte, which is the third register
 abbrev full : Place
 full =
     let p = with·awaited (with·device (with·check (with·mode (with·running closedPlace 1) 5) 1) 2) 12 in
@@ -26,7 +26,7 @@ full =
     with·control (with·mismatches (with·taken q 0x05060708) 0x090a0b0c) 0xe7
 
 abbrev registers : List ℕ
-registers = 0x11 ∷ 0x12 ∷ 0x13 ∷ 0x14 ∷ 0x15 ∷ 0x16 ∷ 0x17 ∷ 0x18 ∷ []
+registers = 0x11 ∷ 0x12 ∷ 0xe7 ∷ 0x14 ∷ 0x15 ∷ 0x16 ∷ 0x17 ∷ 0x18 ∷ []
 
 abbrev fullBytes : List ℕ
 fullBytes =

@@ -96,10 +96,9 @@ pub fn step(chain: &mut Chain, memory: &mut [u8], byte: u8) -> u8 {
             if check && byte & BIT_3 != 0 {
                 return NO_CHECK;
             }
-            // "In a write the control byte is loaded when taken. ... A check loads no register."
-            if !check {
-                chain.registers[device as usize] = byte;
-            }
+            // "In a write the control byte is loaded when taken." Document 02: "a check stores the control byte too, after
+            // the test for 7."
+            chain.registers[device as usize] = byte;
             chain.place.control = byte;
             chain.place.awaited = AT_ADDRESS_LOW;
             MORE
@@ -193,7 +192,7 @@ fn check_byte(chain: &mut Chain, byte: u8) -> u8 {
     if byte != PREAMBLE {
         return BAD_CHECK_BYTE;
     }
-    // The bit of the control byte kept in the place: in a check the register is not loaded.
+    // The bit of the control byte kept in the place.
     if chain.place.control & BIT_2 != 0 {
         return ENDS_HERE;
     }

@@ -30,14 +30,12 @@ pub fn well_formed(chain: &Chain, place: &Place, registers: &[u8; 8]) -> bool {
     if place.awaited == AT_SECOND_PREAMBLE && place.mode != TWO_PREAMBLES {
         return false;
     }
-    // "Control byte 0 before it is taken; after, in a write, equal to the stored register, and in a check with B3
-    // clear."
+    // "Control byte 0 before it is taken"; after, "in a check with B3 clear". Document 02: "the current control byte
+    // equals the stored register in both sorts of run."
     let control = if place.awaited <= AT_CONTROL {
         place.control == 0
-    } else if check {
-        place.control & BIT_3 == 0
     } else {
-        place.control == stored
+        place.control == stored && (!check || place.control & BIT_3 == 0)
     };
     if !control {
         return false;

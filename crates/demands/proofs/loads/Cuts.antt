@@ -1,4 +1,4 @@
--- A chain with no run open hands every slice back, so slices whose last one is accepted were fed to one open run. Assumes nothing.
+-- A chain with no run open hands every slice back, so slices whose last one goes on or is accepted were fed to one open run. Assumes nothing.
 use Prim.Native.Nat.{ℕ, _<_}
 use mathlib.Core.Path.{_≡_, refl, ap, sym, subst, _∙_}
 use mathlib.Core.List.{List, [], _∷_, _++_}
@@ -10,8 +10,8 @@ use borrow.Author.Tests.{eqb-true, eqb-false}
 use Rattle.chain.specs.declared.Chain.{Chain}
 use Rattle.chain.specs.Paper.{closed, done, more}
 use Rattle.chain.specs.State.{feedNumber}
-use Rattle.chain.proofs.ByCases.{by-test}
-use Rattle.chain.proofs.Sound.{feed-sound}
+use Rattle.chain.proofs.ByCases.{by-test, by-eq}
+use Rattle.chain.proofs.Sound.{feed-sound, feed-never-more}
 use Rattle.machine.specs.declared.Fed.{Fed}
 use Rattle.machine.specs.Run.{Run, run, runOf}
 use Rattle.machine.specs.Calls.{unfed, sliceMemory}
@@ -59,13 +59,17 @@ module _ (c : Chain) (m p : List ℕ) (o : feedNumber c (length m) ≡ done) whe
   pub slice-ends : (came .number ≡ more → ⊥) → ours .slice c m p .fed .chain .place .running ≡ closed
   slice-ends e = ap (λ (f : Fed). f .chain .place .running) (slice-runs c m p o .0) ∙ ap (λ (d : Chain). d .place .running) (fed-over came e)
 
--- slices whose last one is accepted were fed to an open run
+-- slices whose last one goes on were fed to an open run
+pub slices-more : (ps : List (List ℕ)) (c : Chain) (m last : List ℕ) → slices ours c m ps last .fed .answer .number ≡ more → feedNumber c (length m) ≡ done
+slices-more ps c m last h =
+    by-eq (feedNumber c (length m)) done (λ e. e)
+    (λ n. absurd (feed-never-more c (length m) (ap (λ (a : AfterSlice). a .fed .answer .number) (sym (slices-refused ps c m last n)) ∙ h)))
+
+-- and slices whose last one is accepted
 pub slices-fed : (ps : List (List ℕ)) (c : Chain) (m last : List ℕ) → slices ours c m ps last .fed .answer .number ≡ done → feedNumber c (length m) ≡ done
 slices-fed ps c m last h =
-    by-test (eqb (feedNumber c (length m)) done) (eqb-true (feedNumber c (length m)) done)
-    (λ e.
-    let n = eqb-false (feedNumber c (length m)) done e in
-    absurd (n (ap (λ (a : AfterSlice). a .fed .answer .number) (sym (slices-refused ps c m last n)) ∙ h)))
+    by-eq (feedNumber c (length m)) done (λ e. e)
+    (λ n. absurd (n (ap (λ (a : AfterSlice). a .fed .answer .number) (sym (slices-refused ps c m last n)) ∙ h)))
 
 -- which was still open before the last of them
 pub slices-done : (ps : List (List ℕ)) (c : Chain) (m last : List ℕ) → slices ours c m ps last .fed .answer .number ≡ done

@@ -1,5 +1,5 @@
--- Wrong readings of document 01, each shut out by a demand: for each line of 'Easy to get wrong' any loader that reads it so, and one by
--- name; then a slice undone, closing bytes and offsets. Assumes nothing.
+-- Wrong readings, each shut out by a demand: for each line of 'Easy to get wrong' any loader that reads it so, and one by name; then the
+-- registers of a check, a slice undone, closing bytes and offsets. Assumes nothing.
 use Prim.Native.Nat.{ℕ, _<_, _≤_}
 use mathlib.Core.Bool.{true, false, true≢false}
 use mathlib.Core.Path.{_≡_, refl, ap, sym, _∙_}
@@ -31,7 +31,7 @@ use Rattle.demands.specs.Demand3.{Whole, Demand3}
 use Rattle.demands.specs.Files.{Demand2b}
 use Rattle.grammar.specs.Tables.{starts, offsets, windowsFrom}
 use Rattle.demands.specs.Ours.{ours}
-use Rattle.demands.specs.Wrong.{undoing, exclusiveEnd, plainCount, barring, checkWrites, earlierWins, shortClosing, offsetsFromFirst}
+use Rattle.demands.specs.Wrong.{undoing, exclusiveEnd, plainCount, barring, checkWrites, unloading, loadingFirst, earlierWins, shortClosing, offsetsFromFirst}
 use Rattle.grammar.proofs.FitsAccepted.{first-lets}
 use Rattle.demands.proofs.loads.StreamA.{teaching, cells0, windowA, sectionA, zeros-bytes, idle-teaching, mode-one, fits-A, streamA, small-A, reading-A}
 use Rattle.demands.proofs.wrong.Shut.{whole-seen}
@@ -66,9 +66,9 @@ plain-count-out d = plain-out plainCount d refl
 abbrev sectionC : Section
 sectionC = sectionOf 0x10 (0 ∷ 0 ∷ 0 ∷ []) []
 
-fits-C : Fitting teaching writing 1 sectionC []
+fits-C : (check : ℕ) → Fitting teaching check 1 sectionC []
 unfolding sizeOf
-fits-C =
+fits-C check =
     record {
       fits = (omega arith, record { few = omega arith; fit = tt });
       lets = record { b4 = refl; b3 = λ e. refl; sent-b3 = λ e. refl };
@@ -78,7 +78,7 @@ fits-C =
 pub own-bar-out : (l : Loader) → Demand2a l → (n : ℕ) → (n ≡ done → ⊥)
     → ran l writing 1 teaching cells0 [] (0xb2 ∷ 0x10 ∷ 0 ∷ 0 ∷ 0 ∷ 0xff ∷ 0x4d ∷ []) .fed .answer .number ≡ n → ⊥
 unfolding baseOf
-own-bar-out l d n h e = h (sym e ∙ whole-seen l d teaching cells0 writing 1 sectionC [] idle-teaching mode-one fits-C .number)
+own-bar-out l d n h e = h (sym e ∙ whole-seen l d teaching cells0 writing 1 sectionC [] idle-teaching mode-one (fits-C writing) .number)
 
 pub barring-out : Demand2a barring → ⊥
 unfolding sizeOf baseOf knownOf badChain unusedZero wellFormed illFormed stateNumber feedNumber numberOf passedOf advanceOf addressOf memoryOf registersOf missedOf stepOf runOf startNumber startOf fedOf sliceOf sliceMemory
@@ -87,8 +87,8 @@ barring-out d = own-bar-out barring d barred (λ q. omega arith) refl
 -- ---- a check that writes: whatever the bits, the bytes and the answer
 
 pub check-stores-out : (l : Loader) → Demand2f l → (c : Chain) (m : List ℕ) (check mode : ℕ) (ps : List (List ℕ)) (last : List ℕ) → Idle c m → Mode mode
-    → eqb check writing ≡ false → (ran l check mode c m ps last .memory ≡ m → ⊥) → ⊥
-check-stores-out l d c m check mode ps last i o e h = h (d c m check mode ps last i o e .cells)
+    → Bytes (joined ps ++ last) → eqb check writing ≡ false → (ran l check mode c m ps last .memory ≡ m → ⊥) → ⊥
+check-stores-out l d c m check mode ps last i o u e h = h (d c m check mode ps last i o u e .cells)
 
 -- and one that is accepted where B3 is stored: here it is 7
 pub check-accepts-out : (l : Loader) → Demand2e l → (c : Chain) (m : List ℕ) (check mode : ℕ) (ps : List (List ℕ)) (last : List ℕ) → Idle c m → Mode mode
@@ -110,7 +110,7 @@ idle-disabled =
 pub check-writes-out : Demand2f checkWrites → ⊥
 unfolding sizeOf baseOf knownOf badChain unusedZero wellFormed illFormed stateNumber feedNumber numberOf passedOf advanceOf addressOf memoryOf registersOf missedOf stepOf runOf startNumber startOf fedOf sliceOf sliceMemory
 check-writes-out d =
-    let e : _≡_ {A = ℕ} 0x11 0 = ap (λ (x : List ℕ). getD x 9 0) (d disabled cells0 checking 1 [] streamA idle-disabled mode-one refl .cells) in
+    let e : _≡_ {A = ℕ} 0x11 0 = ap (λ (x : List ℕ). getD x 9 0) (d disabled cells0 checking 1 [] streamA idle-disabled mode-one small-A refl .cells) in
     omega arith
 
 pub check-writes-accepts-out : Demand2e checkWrites → ⊥
@@ -145,6 +145,38 @@ overlaps-out l d n h e = h (sym e ∙ whole-seen l d teaching cells0 writing 1 o
 pub earlier-wins-out : Demand2a earlierWins → ⊥
 unfolding sizeOf baseOf knownOf badChain unusedZero wellFormed illFormed stateNumber feedNumber numberOf passedOf advanceOf addressOf memoryOf registersOf missedOf stepOf runOf startNumber startOf fedOf sliceOf sliceMemory
 earlier-wins-out d = overlaps-out earlierWins d 0x22 (λ q. omega arith) refl
+
+-- ---- document 02, wish 5: any loader whose check leaves the register as it was
+
+pub unloaded-out : (l : Loader) → Demand2a l
+    → getD (ran l checking 1 teaching cells0 [] (0xb2 ∷ 0x10 ∷ 0 ∷ 0 ∷ 0 ∷ 0xff ∷ 0x4d ∷ []) .fed .chain .registers) 0 0 ≡ getD (teaching .registers) 0 0 → ⊥
+unfolding baseOf
+unloaded-out l d h =
+    let e : _≡_ {A = ℕ} 0 0x10 = sym h ∙ whole-seen l d teaching cells0 checking 1 sectionC [] idle-teaching mode-one (fits-C checking) .regs 0 (lit< tt) in
+    omega arith
+
+pub unloading-out : Demand2a unloading → ⊥
+unfolding sizeOf baseOf knownOf badChain unusedZero wellFormed illFormed stateNumber feedNumber numberOf passedOf advanceOf addressOf memoryOf registersOf missedOf stepOf runOf startNumber startOf fedOf sliceOf sliceMemory
+unloading-out d = unloaded-out unloading d refl
+
+-- and by what a write of the same bytes leaves, while the check goes on
+pub unloading-goes-out : Demand2f unloading → ⊥
+unfolding sizeOf baseOf knownOf badChain unusedZero wellFormed illFormed stateNumber feedNumber numberOf passedOf advanceOf addressOf memoryOf registersOf missedOf stepOf runOf startNumber startOf fedOf sliceOf sliceMemory
+unloading-goes-out d =
+    let h = d teaching cells0 checking 1 [] (0xb2 ∷ 0x10 ∷ []) idle-teaching mode-one (bytes-below (0xb2 ∷ 0x10 ∷ []) refl) refl .as-written refl in
+    let e : _≡_ {A = ℕ} 0 0x10 = ap (λ (x : List ℕ). getD x 0 0) h in
+    omega arith
+
+-- a control byte that is 7, loaded before it is refused
+pub loading-first-out : Demand2d loadingFirst → ⊥
+unfolding sizeOf baseOf knownOf badChain unusedZero wellFormed illFormed stateNumber feedNumber numberOf passedOf advanceOf addressOf memoryOf registersOf missedOf stepOf runOf startNumber startOf fedOf sliceOf sliceMemory
+loading-first-out d =
+    let h = d (ours .start teaching cells0 1 checking .chain) cells0 (0xb2 ∷ 0x08 ∷ []) 1 (lit< tt) refl seven .kept .registers in
+    let e : _≡_ {A = ℕ} 0x08 0 = ap (λ (x : List ℕ). getD x 0 0) h in
+    omega arith
+  where
+    seven : _≡_ {A = ℕ} 7 more → ⊥
+    seven q = omega arith
 
 -- ---- a slice that ends in a refusal, undone: stream A with a bad check byte
 

@@ -1,4 +1,4 @@
--- What a byte and a run of them leave as it was: the sort of run; a check every cell, and every register. Assumes nothing.
+-- What a byte and a run of them leave as it was: the sort of run, and in a check every cell. Assumes nothing.
 use Prim.Native.Nat.{ℕ}
 use mathlib.Core.Bool.{false, and-false}
 use mathlib.Core.Path.{_≡_, refl, _∙_}
@@ -8,7 +8,7 @@ use Rattle.chain.specs.declared.Chain.{Chain}
 use Rattle.chain.specs.Paper.{checking, more}
 use Rattle.chain.proofs.ByCases.{by-test}
 use Rattle.awaited.specs.Byte.{numberOf}
-use Rattle.machine.specs.Run.{writes, memoryOf, registersOf, missedOf, counted, loads, Run, stepOf, runOf}
+use Rattle.machine.specs.Run.{writes, memoryOf, missedOf, counted, Run, stepOf, runOf}
 use Rattle.machine.proofs.Frame.{advance-frame}
 use Rattle.machine.proofs.Runs.{run-keeps}
 
@@ -24,41 +24,26 @@ module _ (c : Chain) (m : List ℕ) (b : ℕ) where
   unfolding stepOf memoryOf
   unwritten w = by-test (eqb (numberOf c b) more) (λ e. simp (e, w, and-false)) (λ e. rw e)
 
-  -- a run that loads no register changes none
-  unloaded : loads c ≡ false → stepOf c m b .chain .registers ≡ c .registers
-  unfolding stepOf registersOf
-  unloaded w = by-test (eqb (numberOf c b) more) (λ e. simp (e, w, and-false)) (λ e. rw e)
-
 -- ---- a run of them
 
 record Still (r s : Run) : Type 0 where
   check : s .chain .place .check ≡ r .chain .place .check
   cells : writes (r .chain) ≡ false → s .memory ≡ r .memory
-  registers : loads (r .chain) ≡ false → s .chain .registers ≡ r .chain .registers
 
 run-still : (bs : List ℕ) (r : Run) → Still r (runOf r bs)
 run-still =
-    run-keeps Still (λ r. record { check = refl; cells = λ _. refl; registers = λ _. refl })
+    run-keeps Still (λ r. record { check = refl; cells = λ _. refl })
     (λ r s t x y.
     record {
       check = y .check ∙ x .check;
       cells = λ w. y .cells (rw (x .check) w) ∙ x .cells w;
-      registers = λ w. y .registers (rw (x .check) w) ∙ x .registers w;
     })
-    (λ r b. record { check = step-check (r .chain) (r .memory) b; cells = unwritten (r .chain) (r .memory) b; registers = unloaded (r .chain) (r .memory) b })
+    (λ r b. record { check = step-check (r .chain) (r .memory) b; cells = unwritten (r .chain) (r .memory) b })
 
 -- a run that is no write changes no cell
 pub unwritten-run : (bs : List ℕ) (r : Run) → writes (r .chain) ≡ false → runOf r bs .memory ≡ r .memory
 unwritten-run bs r = run-still bs r .cells
 
--- a run that loads no register changes none
-pub unloaded-run : (bs : List ℕ) (r : Run) → loads (r .chain) ≡ false → runOf r bs .chain .registers ≡ r .chain .registers
-unloaded-run bs r = run-still bs r .registers
-
 -- a check changes no cell
 pub check-cells : (bs : List ℕ) (r : Run) → r .chain .place .check ≡ checking → runOf r bs .memory ≡ r .memory
 check-cells bs r h = run-still bs r .cells (rw h refl)
-
--- a check loads no register
-pub check-registers : (bs : List ℕ) (r : Run) → r .chain .place .check ≡ checking → runOf r bs .chain .registers ≡ r .chain .registers
-check-registers bs r h = run-still bs r .registers (rw h refl)

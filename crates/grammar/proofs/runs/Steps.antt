@@ -73,22 +73,23 @@ module _ (c : Chain) (p : Place) (b : ℕ) where
       let f = good at·second h in
       rw (g .0, g .1) (rw (eq-eqb (p .device) 0 (f .first-device (lit≤ tt, lit≤ tt)), eq-eqb (p .mode) two-preambles (f .second-in-6 refl)) at h)
 
-  -- the byte is loaded in a write, and read back
+  -- the byte is loaded, and read back
   keeps-2 : p .device < length (c .registers) → Keeps at·control
   unfolding wellFormed registersOf advanceOf unusedZero
   keeps-2 inside h n =
       let f = good at·control h in
       let z : p .control ≡ 0 = f .control-before (lit≤ tt) in
       let four : B4 (placeRegister (c .registers) p) ≡ false = ne-eqb (placeRegister (c .registers) p / bit4 % 2) 1 (f .at-2 refl) in
+      let far = drop-set-lt (c .count) (c .registers) (p .device) b (f .device-in-chain) in
+      let near = getD-set-same (c .registers) (p .device) b 0 inside in
       by-test (eqb (p .check) writing)
       (λ e.
       let w : p .check ≡ writing = eqb-true (p .check) writing e in
-      rw (w, drop-set-lt (c .count) (c .registers) (p .device) b (f .device-in-chain), getD-set-same (c .registers) (p .device) b 0 inside, eq-eqb b b refl)
-      (rw (w, z, four) at h))
+      rw (w, far, near, eq-eqb b b refl) (rw (w, z, four) at h))
       (λ e.
       let w : p .check ≡ checking = omega (arith, f .write-or-check, eqb-false (p .check) writing e) in
       let seven : (B3 b) ≡ false = rw (w, and-false (eqb b preamble)) at (no-rule (at at·control) b n no-check) in
-      rw (w, seven) (rw (w, z, four, ne-eqb (placeRegister (c .registers) p / bit3 % 2) 1 (f .at-2-checked (refl, w))) at h))
+      rw (w, far, near, eq-eqb b b refl, seven) (rw (w, z, four, ne-eqb (placeRegister (c .registers) p / bit3 % 2) 1 (f .at-2-checked (refl, w))) at h))
 
   keeps-3 : Keeps at·address
   unfolding wellFormed registersOf advanceOf
@@ -168,9 +169,8 @@ module _ (c : Chain) (p : Place) (b : ℕ) where
       let g = begins-clear (at at·check) b n (rw q) in
       let last : p .device + 1 < c .count = leb-false (c .count) (p .device + 1) (rw q at (no last-device)) in
       let d : ltb ((p .device + 1) % 2 ^ 8) (c .count) ≡ true = rw (mod-eq-of-lt {n = p .device + 1} {m = 2 ^ 8} (omega arith)) (lt-ltb (p .device + 1) (c .count) last) in
-      let writes : p .check ≡ writing → p .control ≡ placeRegister (c .registers) p = λ e. f .control-written (lit< tt, e) in
       let clear : p .check ≡ checking → Sets bit3 (p .control) → ⊥ = λ e. f .control-checked (lit< tt, e) in
-      let w : (eqb (p .check) writing implies eqb (p .control) (placeRegister (c .registers) p)) ≡ true = said (search reads) writes in
+      let w : eqb (p .control) (placeRegister (c .registers) p) ≡ true = eq-eqb (p .control) (placeRegister (c .registers) p) (f .control-taken (lit< tt)) in
       let k : (eqb (p .check) checking implies not (B3 (p .control))) ≡ true = said (search reads) clear in
       rw (d, g .0, g .1) (rw (lt-ltb (p .device) (c .count) (f .device-in-chain), w, k) at h)
 

@@ -13,10 +13,6 @@ returns-2 : tie.Need-returns-2
 unfolding registersOf
 returns-2 c = search tests
 
-returns-3 : tie.Need-returns-3
-unfolding registersOf
-returns-3 c = search tests
-
 pub registers-after-spec : {M : Type 1} → statement M
 registers-after-spec =
-    tie.close (tie.spec (λ c κs. search needs) returns returns-2 returns-3)
+    tie.close (tie.spec (λ c κs. search needs) returns returns-2)
