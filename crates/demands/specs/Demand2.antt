@@ -8,7 +8,7 @@ use mathlib.Core.List.{List, [], _∷_, _++_}
 use lib.Dec.{eqb}
 use lib.ListN.{length, getD, take}
 use Rattle.chain.specs.declared.Chain.{Chain}
-use Rattle.chain.specs.Paper.{closed, opened, writing, done, more, B3}
+use Rattle.chain.specs.Paper.{closed, opened, writing, done, more}
 use Rattle.chain.specs.Rules.{pick}
 use Rattle.chain.specs.Set.{with·place}
 use Rattle.grammar.specs.Sent.{memory, registers, Sent, lastTo, bytesOf, unlikes}
@@ -91,8 +91,8 @@ Demand2e l = (c : Chain) (m : List ℕ) (check mode : ℕ) (ps : List (List ℕ)
     → LetIn check mode c (take (ran l check mode c m ps last .fed .answer .taken) (joined ps ++ last))
 
 -- a is what a check of the bytes bs left, b what a write of them leaves, cut alike. The check changed no cell; each register holds the last control
--- byte that the machine takes for it, or its old value, also where the run has ended. So B3 is as it was in each: a device that has it stored is
--- not begun, and a control byte that sets it is not taken (7). And as long as the check goes on, so does the write, and leaves the same registers
+-- byte that the machine takes for it, or its old value, also where the run has ended. As long as the check goes on, so does the write, and leaves
+-- the same registers
 pub record Checked (check mode : ℕ) (c : Chain) (m bs : List ℕ) (a b : AfterSlice) : Type 0 where
   pub cells : a .memory ≡ m
   pub count : a .fed .chain .count ≡ c .count
@@ -100,7 +100,6 @@ pub record Checked (check mode : ℕ) (c : Chain) (m bs : List ℕ) (a b : After
   pub regs : (d : ℕ) → d < length (c .registers)
       → getD (a .fed .chain .registers) d 0 ≡ lastTo registers (walkOf (with·place c (openedPlace mode check)) bs) d (getD (c .registers) d 0)
   pub regs-many : length (a .fed .chain .registers) ≡ length (c .registers)
-  pub b3 : (d : ℕ) → B3 (getD (a .fed .chain .registers) d 0) ≡ B3 (getD (c .registers) d 0)
   pub goes-on : a .fed .answer .number ≡ more → b .fed .answer .number ≡ more
   pub as-written : a .fed .answer .number ≡ more → a .fed .chain .registers ≡ b .fed .chain .registers
 

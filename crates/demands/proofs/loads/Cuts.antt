@@ -3,14 +3,12 @@ use Prim.Native.Nat.{ℕ, _<_}
 use mathlib.Core.Path.{_≡_, refl, ap, sym, subst, _∙_}
 use mathlib.Core.List.{List, [], _∷_, _++_}
 use native.Mathlib.Omega.{arith}
-use lib.Dec.{eqb}
 use lib.ListN.{length, take, length-append}
 use lib.Seq.{take-append-seam}
-use borrow.Author.Tests.{eqb-true, eqb-false}
 use Rattle.chain.specs.declared.Chain.{Chain}
 use Rattle.chain.specs.Paper.{closed, done, more}
 use Rattle.chain.specs.State.{feedNumber}
-use Rattle.chain.proofs.ByCases.{by-test, by-eq}
+use Rattle.chain.proofs.ByCases.{by-eq}
 use Rattle.chain.proofs.Sound.{feed-sound, feed-never-more}
 use Rattle.machine.specs.declared.Fed.{Fed}
 use Rattle.machine.specs.Run.{Run, run, runOf}
@@ -59,36 +57,40 @@ module _ (c : Chain) (m p : List ℕ) (o : feedNumber c (length m) ≡ done) whe
   pub slice-ends : (came .number ≡ more → ⊥) → ours .slice c m p .fed .chain .place .running ≡ closed
   slice-ends e = ap (λ (f : Fed). f .chain .place .running) (slice-runs c m p o .0) ∙ ap (λ (d : Chain). d .place .running) (fed-over came e)
 
--- slices whose last one goes on were fed to an open run
-pub slices-more : (ps : List (List ℕ)) (c : Chain) (m last : List ℕ) → slices ours c m ps last .fed .answer .number ≡ more → feedNumber c (length m) ≡ done
-slices-more ps c m last h =
-    by-eq (feedNumber c (length m)) done (λ e. e)
-    (λ n. absurd (feed-never-more c (length m) (ap (λ (a : AfterSlice). a .fed .answer .number) (sym (slices-refused ps c m last n)) ∙ h)))
+-- ---- slices whose last one gives a number that a run alone gives, as 0 and 16 are
 
--- and slices whose last one is accepted
-pub slices-fed : (ps : List (List ℕ)) (c : Chain) (m last : List ℕ) → slices ours c m ps last .fed .answer .number ≡ done → feedNumber c (length m) ≡ done
-slices-fed ps c m last h =
-    by-eq (feedNumber c (length m)) done (λ e. e)
-    (λ n. absurd (n (ap (λ (a : AfterSlice). a .fed .answer .number) (sym (slices-refused ps c m last n)) ∙ h)))
+module _ (n : ℕ) (own : (c : Chain) (len : ℕ) → feedNumber c len ≡ n → feedNumber c len ≡ done) where
+  -- they were fed to an open run
+  slices-fed : (ps : List (List ℕ)) (c : Chain) (m last : List ℕ) → slices ours c m ps last .fed .answer .number ≡ n → feedNumber c (length m) ≡ done
+  slices-fed ps c m last h =
+      by-eq (feedNumber c (length m)) done (λ e. e)
+      (λ k. own c (length m) (ap (λ (a : AfterSlice). a .fed .answer .number) (sym (slices-refused ps c m last k)) ∙ h))
 
--- which was still open before the last of them
+  -- which was still open before the last of them
+  slices-open : (ps : List (List ℕ)) (c : Chain) (m last : List ℕ) → slices ours c m ps last .fed .answer .number ≡ n
+      → runOf (run c m more) (joined ps) .number ≡ more
+  slices-open [] c m last h = unfold runOf in refl
+  slices-open (p ∷ ps) c m last h =
+      let o = slices-fed (p ∷ ps) c m last h in
+      let r = runOf (run c m more) p in
+      by-eq (r .number) more
+      (λ f.
+      let w = slice-goes c m p o f in
+      let k = slices-open ps (r .chain) (r .memory) last
+      (subst (λ (l : List ℕ). slices ours (r .chain) l ps last .fed .answer .number ≡ n) (w .1)
+      (subst (λ (d : Chain). slices ours d (sliceMemory c m p) ps last .fed .answer .number ≡ n) (w .0) h))
+      in
+      ap (λ (x : Run). x .number) (run-append p (joined ps) (run c m more))
+      ∙ ap (λ (j : ℕ). runOf (run (r .chain) (r .memory) j) (joined ps) .number) f ∙ k)
+      (λ e.
+      let a = ours .slice c m p in
+      let k = slices-fed ps (a .fed .chain) (a .memory) last h in
+      absurd (closed-refuses (a .fed .chain) (length (a .memory)) (slice-ends c m p o e) k))
+
 pub slices-done : (ps : List (List ℕ)) (c : Chain) (m last : List ℕ) → slices ours c m ps last .fed .answer .number ≡ done
     → runOf (run c m more) (joined ps) .number ≡ more
-slices-done [] c m last h = unfold runOf in refl
-slices-done (p ∷ ps) c m last h =
-    let o = slices-fed (p ∷ ps) c m last h in
-    let r = runOf (run c m more) p in
-    by-test (eqb (r .number) more)
-    (λ e.
-    let f = eqb-true (r .number) more e in
-    let w = slice-goes c m p o f in
-    let k = slices-done ps (r .chain) (r .memory) last
-    (subst (λ (n : List ℕ). slices ours (r .chain) n ps last .fed .answer .number ≡ done) (w .1)
-    (subst (λ (d : Chain). slices ours d (sliceMemory c m p) ps last .fed .answer .number ≡ done) (w .0) h))
-    in
-    ap (λ (x : Run). x .number) (run-append p (joined ps) (run c m more))
-    ∙ ap (λ (n : ℕ). runOf (run (r .chain) (r .memory) n) (joined ps) .number) f ∙ k)
-    (λ e.
-    let a = ours .slice c m p in
-    let k = slices-fed ps (a .fed .chain) (a .memory) last h in
-    absurd (closed-refuses (a .fed .chain) (length (a .memory)) (slice-ends c m p o (eqb-false (r .number) more e)) k))
+slices-done = slices-open done (λ c len e. e)
+
+pub slices-more : (ps : List (List ℕ)) (c : Chain) (m last : List ℕ) → slices ours c m ps last .fed .answer .number ≡ more
+    → runOf (run c m more) (joined ps) .number ≡ more
+slices-more = slices-open more (λ c len e. absurd (feed-never-more c len e))
