@@ -7,7 +7,7 @@ use Rattle.chain.specs.declared.Chain.{Chain}
 use Rattle.chain.specs.declared.Made.{Made}
 use Rattle.chain.specs.declared.Written.{Written}
 use Rattle.chain.specs.Paper.{closed, done, first-mode, two-preambles}
-use Rattle.chain.specs.State.{stateNumber}
+use Rattle.chain.specs.State.{stateNumber, feedNumber}
 use Rattle.machine.specs.declared.Fed.{Fed}
 use Rattle.hunt.specs.declared.Hunted.{Hunted}
 use Rattle.lister.specs.declared.Listed.{Listed}
@@ -69,6 +69,14 @@ pub record Idle (c : Chain) (m : List ℕ) : Type 0 where
   pub memory-bytes : Bytes m
   pub sound : stateNumber c (length m) ≡ done
   pub closed-place : c .place .running ≡ closed
+
+-- the same with a run open
+pub record Open (c : Chain) (m : List ℕ) : Type 0 where
+  pub kinds : length (c .kinds) ≡ 8
+  pub registers : length (c .registers) ≡ 8
+  pub register-bytes : Bytes (c .registers)
+  pub memory-bytes : Bytes m
+  pub sound : feedNumber c (length m) ≡ done
 
 pub record Mode (mode : ℕ) : Type 0 where
   pub least : first-mode ≤ mode

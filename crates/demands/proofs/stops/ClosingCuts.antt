@@ -9,7 +9,6 @@ use lib.Seq.{take-append-seam}
 use borrow.Author.Tests.{eq-eqb}
 use Rattle.chain.specs.declared.Chain.{Chain}
 use Rattle.chain.specs.Paper.{done, more}
-use Rattle.chain.specs.State.{feedNumber}
 use Rattle.chain.specs.Kinds.{sizeHere}
 use Rattle.chain.proofs.Sound.{feed-is-open}
 use Rattle.machine.specs.Run.{run, runOf}
@@ -18,20 +17,12 @@ use Rattle.closing.specs.Calls.{writtenNumber}
 use Rattle.closing.proofs.Closes.{closes, room-enough}
 use Rattle.closing.proofs.AreBytes.{closing-are-bytes}
 use Rattle.chain.specs.Bytes.{Bytes}
-use Rattle.demands.specs.Loader.{offered}
+use Rattle.demands.specs.Loader.{offered, Open}
 use Rattle.demands.specs.Demand2.{slices, joined}
 use Rattle.demands.specs.Ours.{ours}
 use Rattle.chain.proofs.Bytes.{bytes-front, bytes-take}
 use Rattle.demands.proofs.loads.Cuts.{front-open}
 use Rattle.demands.proofs.loads.LoadRuns.{open-front, slices-join}
-
--- a lent chain that no number refuses, with a run open: eight kinds and registers, and bytes, as the types of the code say
-pub record Open (s : Chain) (m : List ℕ) : Type 0 where
-  pub kinds : length (s .kinds) ≡ 8
-  pub registers : length (s .registers) ≡ 8
-  pub register-bytes : Bytes (s .registers)
-  pub memory-bytes : Bytes m
-  pub sound : feedNumber s (length m) ≡ done
 
 -- the bytes cs end the open run of s, at exactly their last, and change no cell and no register
 pub record Shuts (s : Chain) (m cs : List ℕ) : Type 0 where

@@ -31,13 +31,13 @@ use Rattle.grammar.proofs.BytesStay.{bytes-stay}
 use Rattle.grammar.proofs.Restart.{Restarted, restart}
 use Rattle.chain.proofs.Sound.{feed-closed}
 use Rattle.grammar.proofs.StartOpens.{count-sound}
-use Rattle.demands.specs.Loader.{AfterSlice, Idle, Mode}
+use Rattle.demands.specs.Loader.{AfterSlice, Idle, Open, Mode}
 use Rattle.demands.specs.Demand2.{Seen, slices, joined}
 use Rattle.demands.specs.Demand3.{load, Whole, Shut, Closes, Stopped, Demand3}
 use Rattle.demands.specs.Ours.{ours}
 use Rattle.demands.proofs.loads.LoadRuns.{begun, left, slice-is, begun-feeds, started, load-is, open-front, slices-join}
 use Rattle.demands.proofs.loads.RunSeen.{seen}
-use Rattle.demands.proofs.stops.ClosingCuts.{Open, Shuts, offers, shuts, room, closing-cut, closing-part, closing-some}
+use Rattle.demands.proofs.stops.ClosingCuts.{Shuts, offers, shuts, room, closing-cut, closing-part, closing-some}
 
 -- ---- what a slice answers, by whether its run is over
 
