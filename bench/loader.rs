@@ -336,7 +336,7 @@ impl Chain {
         None
     }
 
-    /// The closing bytes of a run that awaits data, as long as they are; all else is short and is not raced.
+    /// The closing bytes: a few of their own, then present cells, then what follows a window.
     #[inline(never)]
     pub fn closing(&self, memory: &[u8], out: &mut [u8]) -> (u8, usize) {
         if let Some(n) = self.refusal(memory.len()) {
@@ -344,17 +344,29 @@ impl Chain {
         }
         let Some(run) = self.run else { return (4, 0) };
         let cells = &memory[self.cells(run.device)];
-        let (window, tail): (&[u8], &[u8]) = match run.awaited {
-            Data if run.left > 1 => (&cells[run.next..=run.end], &[0, 0xff, 0xff]),
-            Data => (&cells[run.next..=run.end], &[POSTAMBLE]),
-            Count => (&[], &[0xff, POSTAMBLE]),
-            Check => (&[], &[POSTAMBLE]),
-            _ => return (15, 0),
+        let empty = [self.registers[run.device], 0, 0, 0, 0xff, POSTAMBLE];
+        let tail: &[u8] = if run.left > 1 { &[0, 0xff, 0xff] } else { &[POSTAMBLE] };
+        let (lead, window, tail): (&[u8], &[u8], &[u8]) = match run.awaited {
+            Preamble | Second => (&[0], &[], &[]),
+            Control if run.check => (&[8], &[], &[]),
+            Control => (&empty, &[], &[]),
+            Address(n) => (&empty[n as usize + 1..], &[], &[]),
+            Count => (&empty[4..], &[], &[]),
+            Null => (&[0, 0xff, 0xff], &[], &[]),
+            StartHigh | EndHigh => (&[0xff, 0xff], &[], &[]),
+            StartLow if run.start + 255 < cells.len() => (&[0xff, 0xff, 0xff], &[], &[]),
+            EndLow if run.end >> 8 == run.start >> 8 && run.start & 255 != 0 => (&[0], &[], &[]),
+            EndLow if run.end + 255 < cells.len() && run.start <= run.end + 255 => (&[0], &cells[run.start..=run.end], tail),
+            StartLow | EndLow => (&[0xff], &[], &[]),
+            Data => (&[], &cells[run.next..=run.end], tail),
+            Check => (&empty[5..], &[], &[]),
         };
-        let length = window.len() + tail.len();
+        let length = lead.len() + window.len() + tail.len();
         let Some(out) = out.get_mut(..length) else { return (15, 0) };
-        let (front, back) = out.split_at_mut(window.len());
-        front.copy_from_slice(window);
+        let (front, rest) = out.split_at_mut(lead.len());
+        let (middle, back) = rest.split_at_mut(window.len());
+        front.copy_from_slice(lead);
+        middle.copy_from_slice(window);
         back.copy_from_slice(tail);
         (0, length)
     }

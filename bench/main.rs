@@ -216,6 +216,29 @@ impl Bench {
         );
     }
 
+    /// The shortest ways out: of a window of cells 9 to 11 at its end's low byte, and of a check at its control byte. One byte each.
+    fn closing(&self, job: &str, check: bool, after: usize, wanted: u8) {
+        let memory = noise(BIG, 9);
+        let m = &memory[..];
+        let mut stream = Vec::new();
+        section(&mut stream, &[9], &[11], &m[..3]);
+        let (mut c1, mut c2) = (archive::Chain::new(&[10]), loader::Chain::new(&[10]));
+        let mut kept = memory.clone();
+        c1.start(m, 1, check);
+        c2.start(m, 1, check);
+        assert_eq!(c1.slice(&mut kept, &stream[..after]), c2.slice(&mut kept, &stream[..after]));
+        let (mut o1, mut o2) = ([0; 9], [0; 9]);
+        assert_eq!((c1.closing(m, &mut o1), c2.closing(m, &mut o2)), (1, (0, 1)));
+        assert!(o1 == o2 && o1[0] == wanted);
+        self.row(
+            job,
+            vec![
+                runner("archive", || assert_eq!(black_box(c1).closing(m, black_box(&mut o1)), 1)),
+                runner("Rust", || assert_eq!(black_box(c2).closing(m, black_box(&mut o2)), (0, 1))),
+            ],
+        );
+    }
+
     /// A run that awaits the first data byte of a whole device: its closing bytes, and the place saved, dropped and picked up.
     fn stopped(&self) {
         let memory = noise(BIG, 9);
@@ -288,5 +311,7 @@ fn main() {
     bench.list(1, BIG);
     bench.list(255, 8);
     bench.list(255, 40);
+    bench.closing("closing at 11, 00 alone", false, 10, 0x00);
+    bench.closing("closing of a check at 2", true, 1, 0x08);
     bench.stopped();
 }

@@ -9,8 +9,8 @@
  * plus 3. The stream can then be started afresh, unless a control byte that the run took set bit 4: its device is barred then (6).
  *
  * The run is ended exactly where w->number is 0; the answer's number is then that of the last closing byte, which may be a refusal
- * of the array's own, 5, 11 or 12, or 0. Otherwise nothing is to be sent and all is as it was: w->number is 15 where `out` is too
- * short, and the answer's 16; 1, 17 or 4 stand in both. */
+ * of the array's own, 5, 7, 11 or 12, or 0. Otherwise nothing is to be sent and all is as it was: w->number is 15 where `out` is
+ * too short, and the answer's 16; 1, 17 or 4 stand in both. */
 static inline at6000_answer end_run(at6000_chain *c, uint8_t *mem, size_t mem_len, uint8_t *out, size_t out_len, at6000_written *w)
 {
     *w = at6000_closing(*c, mem, mem_len, out, out_len);

@@ -103,9 +103,10 @@ at6000_fed at6000_slice(at6000_chain c, uint8_t *mem, size_t mem_len, const uint
 /* A slice of one byte. */
 at6000_fed at6000_byte(at6000_chain c, uint8_t *mem, size_t mem_len, uint8_t b);
 
-/* Writes the bytes that end the open run and change no cell and no register; feed them next. At most the current device's size
- * plus 3. The run stays open. Gives 1, 17, 4, 15, else 0; on 0 only the front of the output is written and its length answered,
- * else the output is as it was and the length 0. */
+/* Writes the bytes that end the open run and change no cell and no register; feed them next. No fewer bytes can end the run so.
+ * Their last one ends it, accepted, or refused with 5, 7, 11 or 12. At most the current device's size plus 3. The run stays
+ * open. Gives 1, 17, 4, 15, else 0; on 0 only the front of the output is written and its length answered, else the output is as
+ * it was and the length 0. */
 at6000_written at6000_closing(at6000_chain c, const uint8_t *mem, size_t mem_len, uint8_t *out, size_t out_len);
 
 /* Writes the open run down in AT6000_SAVED_LENGTH bytes; the run stays open. Gives 1, 17, 4, 15, else 0; outputs as for closing. */

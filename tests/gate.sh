@@ -18,5 +18,6 @@ rt staticlib at6000
 sh examples/run.sh "$archive" | diff examples/controller.out -
 sh tests/compare/run.sh "$archive"
 sh tests/stack/run.sh "$archive"
+sh tests/shortest/run.sh "$archive"
 sh tests/listing/run.sh target/bin/listing
 tail -n 1 "$said"

@@ -185,6 +185,14 @@ int main(int argc, char **argv)
     lay(1, MOST, 40);
     count("writer, 255 windows of 40", write, AT6000_DONE);
     count("lister, 255 windows of 40", list, AT6000_DONE);
+    lay(1, MOST, 8);
+    stop(6 + 13 + 4); /* the second window starts at 64, and its end's high byte is there */
+    count("closing at 11, 00 alone", closing, AT6000_DONE);
+    lay(1, MOST, 8);
+    check = 1;
+    stop(1);
+    check = 0;
+    count("closing of a check at 2", closing, AT6000_DONE);
     lay(1, 1, BIG);
     stop(11);
     count("closing of a whole device", closing, AT6000_DONE);

@@ -119,7 +119,9 @@ fn byte(random: &mut Random) -> Call {
 
 fn slice(random: &mut Random) -> Call {
     let lent = if random.once_in(20) { large_window(random) } else { lent(random, true) };
-    let mut stream = if sound_run(&lent) {
+    let mut stream = if random.once_in(8) {
+        closing_bytes(&lent.chain, &lent.memory)
+    } else if sound_run(&lent) {
         let most = random.pick(&[0, 1, 2, 5, 20, 200, 900]);
         streams::walk(random, &lent.chain, &lent.memory, most)
     } else {
@@ -141,11 +143,18 @@ fn large_window(random: &mut Random) -> Lent {
     lent
 }
 
+/// The bytes that end this run; none where closing is refused.
+fn closing_bytes(chain: &Chain, memory: &[u8]) -> Vec<u8> {
+    let mut output = vec![0; 16_381 + 3];
+    let Written { length, .. } = closing(chain, memory, &mut output);
+    output.truncate(length as usize);
+    output
+}
+
 fn closing_call(random: &mut Random) -> Call {
     let Lent { chain, memory } = if random.once_in(8) { large_window(random) } else { lent(random, true) };
-    let mut output = vec![0; 16_381 + 3];
-    let Written { length, .. } = closing(&chain, &memory, &mut output);
-    Call::Closing { chain, memory, room: room(random, length as usize) }
+    let needed = closing_bytes(&chain, &memory).len();
+    Call::Closing { chain, memory, room: room(random, needed) }
 }
 
 fn save(random: &mut Random) -> Call {

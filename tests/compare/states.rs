@@ -40,14 +40,15 @@ fn counter(random: &mut Random) -> u32 {
     }
 }
 
-/// A cell of a device: its first and last, the edges of a high byte, or any.
+/// A cell of a device: its first and last, the edges of a high byte, the one after its first, or any.
 pub fn cell(random: &mut Random, size: usize) -> usize {
     let any = random.below(size);
-    match random.below(6) {
+    match random.below(7) {
         0 => 0,
         1 => size - 1,
         2 => (any | 0xFF).min(size - 1),
         3 => any & 0xFF00,
+        4 => (any & 0xFF00 | 1).min(size - 1),
         _ => any,
     }
 }

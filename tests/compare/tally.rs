@@ -1,7 +1,7 @@
-//! How often each call gave each number, and at which awaited bytes closing, byte and drop met an open run; what a run of the
-//! comparison must have met.
+//! How often each call gave each number, at which awaited bytes closing, byte and drop met an open run, and which closing
+//! bytes were written where there is more than one sort; what a run of the comparison must have met.
 
-use crate::call::{Call, Part};
+use crate::call::{written, Call, Part};
 use crate::model::numbers::*;
 
 const NAMES: [&str; 15] = [
@@ -40,6 +40,9 @@ const AWAITED: [&str; 14] = [
     "byte at 12",
     "byte at 13",
 ];
+
+/// Closing bytes at 2, and the three sorts of them at 11. At 2 a write and a check have each their own.
+const CLOSED: [&str; 4] = ["at 2", "at 11: 00", "at 11: FF", "at 11: longer"];
 
 /// The numbers that each call can give: all of them must be met, and no other may be.
 const NUMBERS: [&[u8]; 15] = [
@@ -110,6 +113,19 @@ pub struct Tally {
     awaited: [[u64; 14]; 6],
     /// The numbers of byte, by awaited byte.
     at: [[u64; 18]; 14],
+    /// The sorts of CLOSED, each in a write and in a check.
+    closed: [[u64; 2]; 4],
+}
+
+/// The row of CLOSED that these closing bytes belong to.
+fn sort_of(awaited: u8, bytes: &[u8]) -> Option<usize> {
+    match (awaited, bytes) {
+        (AT_CONTROL, _) => Some(0),
+        (AT_END_LOW, [0x00]) => Some(1),
+        (AT_END_LOW, [0xFF]) => Some(2),
+        (AT_END_LOW, _) => Some(3),
+        _ => None,
+    }
 }
 
 impl Tally {
@@ -135,6 +151,9 @@ impl Tally {
             if let Some(count) = run.and_then(|row| row.get_mut(place.awaited as usize)) {
                 *count += 1;
             }
+            if let (0, DONE, Some(sort)) = (table, first, sort_of(place.awaited, &written(parts))) {
+                self.closed[sort][place.check as usize] += 1;
+            }
             if let (2, Some(row)) = (table, self.at.get_mut(place.awaited as usize)) {
                 row[first as usize] += 1;
             }
@@ -152,6 +171,8 @@ impl Tally {
         table(&RUNS, &self.awaited);
         println!("How often a byte of an open run gave each number, by awaited byte:");
         table(&AWAITED, &self.at);
+        println!("Closing bytes written at 2 and at 11, in a write and in a check:");
+        table(&CLOSED, &self.closed);
     }
 
     /// What should have been met and was not, or the other way round.
@@ -162,6 +183,11 @@ impl Tally {
         for (name, counts) in RUNS.iter().zip(&self.awaited) {
             for (awaited, _) in counts.iter().enumerate().filter(|(_, &count)| count == 0) {
                 complaints.push(format!("{name} never met an open run at {awaited}"));
+            }
+        }
+        for (name, counts) in CLOSED.iter().zip(&self.closed) {
+            for (check, _) in counts.iter().enumerate().filter(|(_, &count)| count == 0) {
+                complaints.push(format!("closing bytes {name} were never written, check {check}"));
             }
         }
         complaints

@@ -15,6 +15,7 @@ PARTS = [
     ("demand 1", ["chain/WellFormed", "chain/Table", "chain/Bytes", "demands/Demand1", "demands/Formed", "demands/Table", "demands/ByteTable", "demands/ListTable"]),
     ("demands 2 and 3", ["grammar/Fits", "grammar/Stores", "demands/Loader", "demands/Demand2", "demands/Files", "demands/Second", "demands/Demand3", "demands/Ours"]),
     ("wish 4", ["demands/WherePreamble"]),
+    ("wish 8", ["demands/Shortest"]),
     ("the loaders shut out", ["demands/Wrong"]),
     ("the twelve cases", ["demands/Cases"]),
     ("the listing program", ["listing/Lines", "listing/Program"]),

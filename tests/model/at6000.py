@@ -344,7 +344,8 @@ def closing_bytes(c, mem):
     if p.awaited in (PREAMBLE_1, PREAMBLE_2):
         return [0x00]
     if p.awaited == CONTROL:
-        return [c.stored(), 0x00, 0x00, 0x00, 0xFF, POSTAMBLE]
+        # Document 02: "In a check at 2, send 08 alone: number 7 ends it."
+        return [0x08] if p.check else [c.stored(), 0x00, 0x00, 0x00, 0xFF, POSTAMBLE]
     if p.awaited in (ADDRESS_1, ADDRESS_2, ADDRESS_3):
         return [0x00] * (COUNT - p.awaited) + [0xFF, POSTAMBLE]
     if p.awaited == COUNT:
@@ -361,13 +362,17 @@ def closing_bytes(c, mem):
     if p.awaited == END_HIGH:
         return [0xFF, 0xFF]
     if p.awaited == END_LOW:
-        # "11, with end high byte h: FF if 256h + 255 is not below size or is below start."
+        # "11, with end high byte h". Document 02: "For the byte at 11, send 00 when h equals the start's high byte and the start's low byte is
+        # not zero: the end is then below start."
         h = p.end // 256
+        if h == p.start // 256 and p.start % 256 != 0:
+            return [0x00]
+        # "FF if 256h + 255 is not below size or is below start."
         if 256 * h + 255 >= size or 256 * h + 255 < p.start:
             return [0xFF]
-        # "Otherwise the start's low byte if h is the start's high byte, else 00; then the window's present cells, then the tail."
-        low = p.start % 256 if h == p.start // 256 else 0x00
-        return [low, *cells[p.start : 256 * h + low + 1], *tail]
+        # "Otherwise the start's low byte if h is the start's high byte, else 00", and either is 00 by now; "then the window's present cells,
+        # then the tail."
+        return [0x00, *cells[p.start : 256 * h + 1], *tail]
     # "12: present values of the remaining cells, then the tail."
     return [*cells[p.next : p.end + 1], *tail]
 

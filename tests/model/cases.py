@@ -819,24 +819,27 @@ def close(s, want, number):
 
 def cases_closing(s):
     two = stream(section([window(9, 11, "112233"), window(5, 5, "44", null=0xAA)], 0x81), lead="B2B2")
-    wants = [
-        ("0, 1: 00.", [("00", 5), ("00", 5)]),
-        ("2: stored register, 00 00 00 FF 4D.", [("C3 00 00 00 FF 4D", 0)]),
-        ("3 to 5: the missing address bytes as 00, then FF 4D. 6: FF 4D.", [("00 00 00 FF 4D", 0), ("00 00 FF 4D", 0), ("00 FF 4D", 0), ("FF 4D", 0)]),
-        ("7: 00 FF FF. 8: FF FF. 9: FF", [("00 FF FF", 11), ("FF FF", 11), ("FF", 11)]),
-        ("10: FF FF. 11, with end high byte h: FF if 256h + 255 is not below size", [("FF FF", 12), ("FF", 12)]),
-        ("12: present values of the remaining cells, then the tail. Tail: 00 FF FF if windows remain", [(None, 11), (None, 11), (None, 11)]),
-        ("the second window: 7 to 11 as before", [("00 FF FF", 11), ("FF FF", 11), ("FF", 11), ("FF FF", 12), ("FF", 12)]),
-        ("Tail: .. else 4D. 13: 4D.", [("4A 4D", 0), ("4D", 0)]),
-    ]
-    cells = {(0, 0): "5E 63 68 00 FF FF", (0, 1): "63 68 00 FF FF", (0, 2): "68 00 FF FF"}
+    at_2 = [("2: stored register, 00 00 00 FF 4D.", [("C3 00 00 00 FF 4D", 0)])]
+    at_2 += [("document 02: In a check at 2, send 08 alone: number 7 ends it.", [("08", 7)])]
+    below = "document 02: 00 when h equals the start's high byte and the start's low byte is not zero: the end is then below start"
+    cells = [("5E 63 68 00 FF FF", 11), ("63 68 00 FF FF", 11), ("68 00 FF FF", 11)]
     for check in (0, 1):
+        wants = [
+            ("0, 1: 00.", [("00", 5), ("00", 5)]),
+            at_2[check],
+            ("3 to 5: the missing address bytes as 00, then FF 4D. 6: FF 4D.", [("00 00 00 FF 4D", 0), ("00 00 FF 4D", 0), ("00 FF 4D", 0), ("FF 4D", 0)]),
+            ("7: 00 FF FF. 8: FF FF. 9: FF", [("00 FF FF", 11), ("FF FF", 11), ("FF", 11)]),
+            (f"10: FF FF. 11, {below}", [("FF FF", 12), ("00", 12)]),
+            ("12: present values of the remaining cells, then the tail. Tail: 00 FF FF if windows remain", cells),
+            ("the second window: 7 to 11 as before", [("00 FF FF", 11), ("FF FF", 11), ("FF", 11), ("FF FF", 12), ("00", 12)]),
+            ("Tail: .. else 4D. 13: 4D.", [("4A 4D", 0), ("4D", 0)]),
+        ]
         k = 0
         for sentence, rows in wants:
             s.say(f"closing, 0, a {'check' if check else 'write'} in mode 6: '{sentence}'; fed, it ends the run")
-            for i, (want, number) in enumerate(rows):
+            for want, number in rows:
                 stopped(s, 6, check, 0xC3, two, k)
-                close(s, cells[0, i] if want is None else want, number)
+                close(s, want, number)
                 k += 1
         assert k == len(two)
     big = 2
@@ -847,37 +850,26 @@ def cases_closing(s):
         for high, want, number in (("00", "FF FF FF", 12), ("09", "FF FF FF", 12), ("0A", "FF", 11), ("FF", "FF", 11)):
             stopped(s, 1, check, 0x01, bytes_of(head + high), 8, big)
             close(s, want, number)
-        s.say(f"closing, 0, kind 2, a {which}, 11: 'FF if 256h + 255 is not below size or is below start'")
-        for start, h in (("0105", "00"), ("0200", "01"), ("0105", "0A"), ("0000", "0A"), ("0000", "FF"), ("0A00", "0A"), ("0A68", "09")):
-            stopped(s, 1, check, 0x01, bytes_of(head + start + h), 10, big)
-            close(s, "FF", 12)
-        s.say(f"closing, 0, kind 2, a {which}, 11: 'the start's low byte if h is the start's high byte'; then that cell, then the tail, windows left 2 and 1")
-        for count, tail, number in (("FD", "00 FF FF", 11), ("FE", "4D", 0)):
-            for start, h, cell in (("0105", "01", "4A"), ("01FF", "01", "2C"), ("0000", "00", "31"), ("0900", "09", "31"), ("0903", "09", "40")):
-                stopped(s, 1, check, 0x01, bytes_of(f"B2 81 000000 {count} 00" + start + h), 10, big)
-                close(s, start[2:] + cell + tail, number)
         s.say(f"closing, 0, kind 2, a {which}, 11: 'else 00; then the window's present cells': 0105..0200, 00FF..0900, 0000..0900")
         for count, tail, number in (("FD", "00 FF FF", 11), ("FE", "4D", 0)):
             for start, h in ((0x105, 0x02), (0xFF, 0x09), (0, 0x09)):
                 stopped(s, 1, check, 0x01, bytes_of(f"B2 81 000000 {count} 00 {start:04x} {h:02x}"), 10, big)
                 present = bytes((0x31 + 5 * i) % 256 for i in range(start, 256 * h + 1))
                 close(s, b"\x00" + present + bytes_of(tail), number)
-    s.say("closing, 0: 'At most size + 3 bytes': the whole device awaited, a window after it; the other kinds at 9 and 11")
+    s.say("closing, 0: 'At most size + 3 bytes': the whole device awaited, a window after it; the other kinds at 9")
     stopped(s, 1, 0, 0x01, bytes_of("B2 81 000000 FD 00 0000 0033"), 11)
     close(s, bytes((0x31 + 5 * i) % 256 for i in range(52)) + b"\x00\xff\xff", 11)
     rows = [(3, "0F", "FFFFFF", 12), (3, "10", "FF", 11), (5, "1E", "FFFFFF", 12), (5, "1F", "FF", 11), (10, "3E", "FFFFFF", 12), (10, "3F", "FF", 11)]
     for kind, high, want, number in rows:
         stopped(s, 1, 0, 0x01, bytes_of("B2 81 000000 FE 00" + high), 8, kind)
         close(s, want, number)
-        stopped(s, 1, 0, 0x01, bytes_of("B2 81 000000 FE 00" + high + "00" + high), 10, kind)
-        close(s, None if number == 12 else "FF", 0 if number == 12 else 12)
     s.say("closing, 0, on the second device: its stored register, its size, its cells")
     second = stream(section([], 0x41), section([window(9, 11, "112233"), window(5, 5, "44")], 0x42))
-    wants = ["85 00 00 00 FF 4D", "00 00 00 FF 4D", "00 00 FF 4D", "00 FF 4D", "FF 4D", "00 FF FF", "FF FF", "FF", "FF FF", "FF"]
-    wants += ["62 67 6C 00 FF FF", "67 6C 00 FF FF", "6C 00 FF FF", "00 FF FF", "FF FF", "FF", "FF FF", "FF", "4E 4D", "4D"]
-    numbers = [0] * 5 + [11, 11, 11, 12, 12] + [11] * 6 + [12, 12, 0, 0]
+    wants = [("85 00 00 00 FF 4D", 0), ("00 00 00 FF 4D", 0), ("00 00 FF 4D", 0), ("00 FF 4D", 0), ("FF 4D", 0), ("00 FF FF", 11), ("FF FF", 11)]
+    wants += [("FF", 11), ("FF FF", 12), ("00", 12), ("62 67 6C 00 FF FF", 11), ("67 6C 00 FF FF", 11), ("6C 00 FF FF", 11), ("00 FF FF", 11)]
+    wants += [("FF FF", 11), ("FF", 11), ("FF FF", 12), ("00", 12), ("4E 4D", 0), ("4D", 0)]
     for check in (0, 1):
-        for k, (want, number) in enumerate(zip(wants, numbers), 7):
+        for k, (want, number) in enumerate([("08", 7), *wants[1:]] if check else wants, 7):
             s.new(0, 2, [0, 0])
             s.fill(0x31, 0x05, 104)
             load(s, 0x41, 0x85)
@@ -904,6 +896,113 @@ def cases_closing(s):
         s.closing(0, room=n)
     s.say("'They are written, not fed': the run goes on where it was")
     s.feed(0, A[14:], 15, 0)
+    s.say("closing, 15: one byte short of 00 alone at 11, of 08 alone, and of 00, a cell and the tail")
+    rows = [(0, 0, A, 10, "00"), (2, 1, A, 10, "00"), (0, 1, A, 1, "08"), (2, 1, A, 1, "08")]
+    rows += [(2, 0, bytes_of("B2 81 000000 FE 00 0100 01"), 10, "00 31 4D"), (2, 1, bytes_of("B2 81 000000 FD 00 0100 01"), 10, "00 31 00 FF FF")]
+    for kind, check, sent, k, want in rows:
+        stopped(s, 1, check, 0x24, sent, k, kind)
+        n = len(bytes_of(want))
+        s.closing(15, "", room=n - 1)
+        s.closing(0, want, room=n)
+        s.closing(0, want, room=n + 1)
+
+
+def at_11(s, check, left, start, h, want, number, front=""):
+    """The closing bytes of an open run at 11 that has this start and end high byte, after these bytes for devices before; all is as it was then."""
+    sent = bytes_of(f"B2 {front} 81 000000 {0xFF - left:02x} 00 {start:04x} {h:02x}")
+    s.start(0, 1, check)
+    s.feed(16, sent, len(sent))
+    assert s.c.place.awaited == 11
+    close(s, want, number)
+
+
+def cases_closing_11(s):
+    s.say("closing at 11, h the end's high byte; first document 02: 'send 00 when h equals the start's high byte and the start's low byte is not zero'")
+    s.say("then 'FF if 256h + 255 is not below size or is below start'; then 'else 00; then the window's present cells, then the tail'")
+    s.say("no kind has a size that is 255 or 0 modulo 256 (52, 2,665, 4,141, 8,065, 16,381); tried for each is the last cell's h, and the one before it")
+    assert all(size % 256 not in (0, 255) for size in SIZES.values())
+    for kind, size in SIZES.items():
+        last = size // 256
+        s.new(0, 1, [kind])
+        s.fill(0x31, 0x05, size)
+        load(s, 0x81)
+        for check in (0, 1):
+            for left, tail, number in ((1, "4D", 0), (2, "00 FF FF", 11)):
+                which = f"a {'check' if check else 'write'}, windows left {left}"
+                s.say(f"closing, 0, kind {kind}, {which}, the last cell's h, {last:02x}: 256h + 255 is not below size; low bytes 0, 1, the last cell's")
+                at_11(s, check, left, 256 * last, last, "FF", 12)
+                at_11(s, check, left, 256 * last + 1, last, "00", 12)
+                at_11(s, check, left, size - 1, last, "00", 12)
+                at_11(s, check, left, 256 * last + 1, last + 1, "FF", 12)
+                at_11(s, check, left, 256 * last + 1, 0xFF, "FF", 12)
+                if last == 0:
+                    continue
+                h = last - 1
+                at_11(s, check, left, 256 * h, last, "FF", 12)
+                at_11(s, check, left, 256 * h + 255, last, "FF", 12)
+                s.say(f"the h before it, {h:02x}: 256h + 255 is below size; low bytes 0, 1 and 255; h one below the start's, and one above")
+                at_11(s, check, left, 256 * h, h, "00 31" + tail, number)
+                at_11(s, check, left, 256 * h + 1, h, "00", 12)
+                at_11(s, check, left, 256 * h + 255, h, "00", 12)
+                at_11(s, check, left, 256 * last, h, "FF", 12)
+                at_11(s, check, left, 256 * last + 1, h, "FF", 12)
+                at_11(s, check, left, 256 * h - 1, h, "00 2C 31" + tail, number)
+                at_11(s, check, left, 256 * h - 2, h, "00 27 2C 31" + tail, number)
+                if kind == 2:
+                    s.say("h far from the start's: below it, and past the size; h the start's in the middle of the device")
+                    for start, h in ((0x0105, 0x00), (0x0A68, 0x00), (0x0A68, 0x09), (0x0105, 0x0A), (0x0000, 0x0A), (0x0000, 0xFF)):
+                        at_11(s, check, left, start, h, "FF", 12)
+                    at_11(s, check, left, 0x0105, 0x01, "00", 12)
+                    at_11(s, check, left, 0x0000, 0x00, "00 31" + tail, number)
+    s.say("the same on the second device of a chain, kind 2 behind kind 0: its own size, its own cells; and kind 0 behind kind 2")
+    for kinds in ([0, 2], [2, 0]):
+        s.new(0, 2, kinds)
+        s.fill(0x31, 0x05, 2717)
+        load(s, 0x41, 0x81)
+        for check in (0, 1):
+            for left, tail, number in ((1, "4D", 0), (2, "00 FF FF", 11)):
+                rows = [(0x0009, 0x00, "00", 12), (0x0033, 0x00, "00", 12), (0x0009, 0xFF, "FF", 12), (0x0001, 0x0A, "FF", 12)]
+                if kinds == [0, 2]:
+                    rows += [(0x0000, 0x00, "00 35" + tail, number), (0x0100, 0x01, "00 35" + tail, number), (0x00FF, 0x01, "00 30 35" + tail, number)]
+                    rows += [(0x0101, 0x01, "00", 12), (0x01FF, 0x01, "00", 12), (0x0A68, 0x0A, "00", 12)]
+                    rows += [(0x0200, 0x01, "FF", 12), (0x0A00, 0x0A, "FF", 12)]
+                else:
+                    rows += [(0x0000, 0x00, "FF", 12), (0x0001, 0x01, "FF", 12)]
+                for start, h, want, ends in rows:
+                    at_11(s, check, left, start, h, want, ends, front="41 000000 FF B2")
+
+
+def cases_closing_2(s):
+    for mode in (1, 6):
+        lead = "B2B2" if mode == 6 else "B2"
+        s.say(f"document 02, a check at 2 in mode {mode}: '08 alone: number 7 ends it'; the register is kept, and the check started afresh goes on")
+        for stored in (0x00, 0x01, 0x04, 0x24, 0x80, 0xE7):
+            stopped(s, mode, 1, stored, bytes_of(lead), len(bytes_of(lead)))
+            close(s, "08", 7)
+            assert s.c.registers[0] == stored
+            s.start(0, mode, 1)
+            s.feed(0, stream(section([window(9, 11, "5E6368")], 0x02), lead=lead), 14 + len(bytes_of(lead)), 0)
+            assert s.c.registers[0] == 0x02
+        s.say(f"a write at 2 in mode {mode}: 'stored register, 00 00 00 FF 4D', B3 set or clear")
+        for stored in (0x00, 0x01, 0x08, 0x24, 0x2C, 0xEF):
+            stopped(s, mode, 0, stored, bytes_of(lead), len(bytes_of(lead)))
+            close(s, bytes([stored]) + bytes_of("00 00 00 FF 4D"), 0)
+            assert s.c.registers[0] == stored
+    s.say("at 2 on the second device of a chain: a check 08, a write six bytes with its own register; both registers are kept, and a fresh start goes on")
+    both = stream(section([window(0, 0, "31")], 0x01), section([window(51, 51, "34")], 0x02))
+    for stored in (0x00, 0x01, 0x24, 0xE7):
+        for check in (1, 0):
+            s.new(0, 2, [0, 0])
+            s.fill(0x31, 0x05, 104)
+            load(s, 0x40, stored)
+            s.start(0, 1, check)
+            s.feed(16, both[:13], 13, 0)
+            assert (s.c.place.awaited, s.c.place.device) == (2, 1)
+            close(s, "08" if check else bytes([stored]) + bytes_of("00 00 00 FF 4D"), 7 if check else 0)
+            assert s.c.registers[:2] == [0x01, stored]
+            s.start(0, 1, check)
+            s.feed(0, both, len(both), 0)
+            assert s.c.registers[:2] == [0x01, 0x02]
 
 
 # "Saved place, 27 bytes" and what is well formed: (sentence, place, registers, well formed)
@@ -1329,14 +1428,17 @@ def cases_list(s):
 
 
 def ending(s):
-    """The number with which closing bytes end a run, by the awaited byte: 5, 0, 11 or 12 as the byte refused is a preamble, none, a start or an end."""
+    """The number with which closing bytes end a run, by the awaited byte: 5, 7, 0, 11 or 12 as the byte refused is a preamble, the control byte of a
+    check, none, a start or an end."""
     p = s.c.place
     if p.awaited <= 1:
         return 5
+    if p.awaited == 2:
+        return 7 if p.check else 0
     if p.awaited in (7, 8, 9):
         return 11
     if p.awaited in (10, 11):
-        return 12  # in the teaching array 255 is past the size
+        return 12  # in the teaching array 255 is past the size, and 0 is below every other start
     return 11 if p.left > 1 else 0
 
 
@@ -1460,7 +1562,8 @@ def cases_drop(s):
 
 
 ALL = [cases_new, cases_reset, cases_start, cases_bytes, cases_preamble, cases_control, cases_windows, cases_check_byte, cases_check, cases_guide]
-ALL += [cases_chains, cases_closing, cases_saved, cases_picked_up, cases_hunt, cases_write, cases_list, cases_stops, cases_drop]
+ALL += [cases_chains, cases_closing, cases_closing_11, cases_closing_2, cases_saved, cases_picked_up, cases_hunt, cases_write, cases_list]
+ALL += [cases_stops, cases_drop]
 
 
 # Every number that each call can give, by the paper's table; each is given at least once.

@@ -3,19 +3,17 @@ use Prim.Native.Nat.{ℕ, _+_, _<_}
 use mathlib.Core.Bool.{Bool, true, false}
 use mathlib.Core.Path.{refl}
 use mathlib.Core.List.{List, [], _∷_}
-use native.Mathlib.Nat.{mod-lt}
 use lib.Dec.{eqb, ltb, lit<}
 use lib.ListN.{take, drop}
 use Rattle.chain.specs.declared.Chain.{Chain}
-use Rattle.chain.specs.declared.Place.{Place}
 use Rattle.chain.specs.Paper.{postamble, no-windows}
 use Rattle.chain.specs.Rules.{pick, Row, _⇒_, rowOf}
 use Rattle.chain.specs.Kinds.{baseOf, sizeHere}
-use Rattle.chain.specs.Window.{highByte, withLow, widthOf}
+use Rattle.chain.specs.Window.{withLow, widthOf}
 use Rattle.chain.specs.Bytes.{Bytes}
-use Rattle.chain.proofs.ByCases.{by-test}
 use Rattle.chain.proofs.Bytes.{bytes-append, bytes-take, bytes-at, bytes-drop, bytes-below}
-use Rattle.closing.specs.Closing.{storedRegister, tail, window, refusesFF, endLow, withFF, afterStart, afterEnd, closingRows, closingBytes}
+use Rattle.awaited.specs.Byte.{checks}
+use Rattle.closing.specs.Closing.{storedRegister, tail, window, afterPreamble, endsBelow, refusesFF, withFF, afterStart, afterEnd, closingRows, closingBytes}
 
 pick-bytes : (k : Bool) (xs ys : List ℕ) → Bytes xs → Bytes ys → Bytes (pick k xs ys)
 pick-bytes true xs ys u v = u
@@ -30,9 +28,6 @@ row-bytes : (a : ℕ) (rows : List (Row (List ℕ))) → EachBytes rows → Byte
 row-bytes a [] u = tt
 row-bytes a ((n ⇒ x) ∷ rows) u = pick-bytes (eqb a n) x (rowOf a rows []) (u .0) (row-bytes a rows (u .1))
 
-low-byte : (p : Place) → endLow p < 256
-low-byte p = by-test (eqb (highByte (p .end)) (highByte (p .start))) (λ e. rw e (mod-lt (p .start) (lit< tt))) (λ e. rw e (lit< tt))
-
 module _ (c : Chain) (m : List ℕ) (g : Bytes (c .registers)) (u : Bytes m) where
   tail-bytes : Bytes (tail (c .place))
   tail-bytes = pick-bytes (ltb 1 (c .place .left)) (0x00 ∷ 0xff ∷ 0xff ∷ []) (postamble ∷ []) (bytes-below (0x00 ∷ 0xff ∷ 0xff ∷ []) refl) (bytes-below (postamble ∷ []) refl)
@@ -42,14 +37,21 @@ module _ (c : Chain) (m : List ℕ) (g : Bytes (c .registers)) (u : Bytes m) whe
       let from = baseOf (c .kinds) (c .place .device) + first in
       bytes-append (take (widthOf first last) (drop from m)) (tail (c .place)) (bytes-take (widthOf first last) (drop from m) (bytes-drop from m u)) tail-bytes
 
+  control-bytes : Bytes (afterPreamble c)
+  control-bytes =
+      pick-bytes (checks c) (0x08 ∷ []) (storedRegister c ∷ 0x00 ∷ 0x00 ∷ 0x00 ∷ no-windows ∷ postamble ∷ []) (bytes-below (0x08 ∷ []) refl)
+      (bytes-at (c .registers) g (c .place .device), bytes-below (0x00 ∷ 0x00 ∷ 0x00 ∷ no-windows ∷ postamble ∷ []) refl)
+
   start-bytes : Bytes (afterStart c)
   start-bytes = (lit< tt, pick-bytes (ltb (withFF (c .place .start)) (sizeHere c)) (0xff ∷ 0xff ∷ []) [] (bytes-below (0xff ∷ 0xff ∷ []) refl) tt)
 
   end-bytes : Bytes (afterEnd c m)
   end-bytes =
       let p = c .place in
-      let last = withLow (p .end) (endLow p) in
-      pick-bytes (refusesFF c) (0xff ∷ []) (endLow p ∷ window c m (p .start) last) (bytes-below (0xff ∷ []) refl) (low-byte p, window-bytes (p .start) last)
+      let last = withLow (p .end) 0x00 in
+      let closed : List ℕ = 0x00 ∷ window c m (p .start) last in
+      pick-bytes (endsBelow p) (0x00 ∷ []) (pick (refusesFF c) (0xff ∷ []) closed) (bytes-below (0x00 ∷ []) refl)
+      (pick-bytes (refusesFF c) (0xff ∷ []) closed (bytes-below (0xff ∷ []) refl) (lit< tt, window-bytes (p .start) last))
 
   each-bytes : EachBytes (closingRows c m)
   each-bytes = (
@@ -57,7 +59,7 @@ module _ (c : Chain) (m : List ℕ) (g : Bytes (c .registers)) (u : Bytes m) whe
     (
       bytes-below (0x00 ∷ []) refl,
       (
-        (bytes-at (c .registers) g (c .place .device), bytes-below (0x00 ∷ 0x00 ∷ 0x00 ∷ no-windows ∷ postamble ∷ []) refl),
+        control-bytes,
         (
           bytes-below (0x00 ∷ 0x00 ∷ 0x00 ∷ no-windows ∷ postamble ∷ []) refl,
           (

@@ -1,45 +1,48 @@
 -- The law of closing bytes: in every state whose run the calls take as open they end it, at exactly their last byte, and change no cell and no
 -- register; they are at most size + 3. Assumes nothing.
-use Prim.Native.Nat.{ℕ, suc, _+_, _-_, _/_, _%_, _^_, _<_, _≤_}
-use mathlib.Core.Bool.{false, _&&_}
+use Prim.Native.Nat.{ℕ, suc, _+_, _-_, _%_, _^_, _<_, _≤_}
+use mathlib.Core.Bool.{false, _&&_, _||_}
 use mathlib.Core.Path.{_≡_, refl, ap, _∙_}
 use mathlib.Core.List.{List, [], _∷_}
-use native.Mathlib.Nat.{div-add-mod'}
 use native.Mathlib.Omega.{arith}
 use lib.Dec.{eqb, ltb}
-use lib.ListN.{length, take, drop, length-append, length-take}
-use borrow.Author.Tests.{eqb-true, ne-eqb, le-ltb}
+use lib.ListN.{length, take}
+use borrow.Author.Tests.{ne-eqb, le-ltb}
 use Rattle.chain.proofs.ByCases.{by-test, no-case, _or_, below}
 use Rattle.chain.proofs.FirstOf.{first-never}
 use Rattle.chain.proofs.Means.{says, reads}
 use Rattle.chain.proofs.Sound.{feed-is-open}
 use Rattle.chain.specs.declared.Chain.{Chain}
-use Rattle.chain.specs.declared.Place.{Place}
-use Rattle.chain.specs.Paper.{at·preamble, at·second, at·null, at·start, at·start-low, at·end, at·end-low, at·data, done, no-preamble, bad-start, bad-end, more}
+use Rattle.chain.specs.Paper.{at·preamble, at·second, at·control, at·null, at·start, at·start-low, at·end, at·end-low, at·data, done, no-preamble, no-check, bad-start, bad-end, more}
 use Rattle.chain.specs.Rules.{Rule, _gives_, firstOf, from}
 use Rattle.chain.specs.Set.{with·place, closedPlace}
-use Rattle.chain.specs.Kinds.{baseOf, sizeHere}
+use Rattle.chain.specs.Kinds.{sizeHere}
 use Rattle.chain.specs.Window.{withLow}
 use Rattle.chain.specs.State.{openNumber, feedNumber}
+use Rattle.awaited.specs.Byte.{checks}
 use Rattle.machine.specs.Run.{run, runOf}
 use Rattle.machine.specs.Calls.{answered, fedOf, sliceOf, sliceMemory}
-use Rattle.closing.specs.Closing.{withFF, tail, window, refusesFF, endLow, closingBytes}
+use Rattle.closing.specs.Closing.{withFF, window, endsBelow, refusesFF, closingBytes}
 use Rattle.closing.specs.Calls.{writtenNumber}
 use Rattle.closing.proofs.Meets.{number-open}
 use Rattle.closing.proofs.Ends.{Ends}
 use Rattle.closing.proofs.Rows.{ends-0, ends-1, ends-2, ends-3, ends-4, ends-5, ends-6, ends-7, ends-8, ends-9, ends-10, ends-11, ends-12, ends-13}
 use Rattle.closing.proofs.Sound.{Within, within}
+use Rattle.closing.proofs.Least.{after-most}
+use Rattle.closing.proofs.NoneShorter.{window-least}
 
--- when the closing bytes end a run with a number other than 0: 5 at a preamble, 11 and 12 where FF FF is sent as a start or an end
+-- when the closing bytes end a run with a number other than 0: 5 at a preamble, 7 in a check at 2, 11 and 12 where a start or an end is sent
+-- that is none
 abbrev pub endRules : Chain → List Rule
 endRules c =
     let p = c .place in
     (from at·preamble at·second (p .awaited) gives no-preamble)
+    ∷ (eqb (p .awaited) at·control && checks c gives no-check)
     ∷ (from at·null at·start (p .awaited) gives bad-start)
     ∷ (eqb (p .awaited) at·start-low && ltb (withFF (p .start)) (sizeHere c) gives bad-end)
     ∷ (eqb (p .awaited) at·start-low gives bad-start)
     ∷ (eqb (p .awaited) at·end gives bad-end)
-    ∷ (eqb (p .awaited) at·end-low && refusesFF c gives bad-end)
+    ∷ (eqb (p .awaited) at·end-low && (endsBelow p || refusesFF c) gives bad-end)
     ∷ (from at·end-low at·data (p .awaited) && ltb 1 (p .left) gives bad-start)
     ∷ []
 
@@ -81,18 +84,9 @@ module _ (c : Chain) (m : List ℕ) (s : Within c m) where
         short = λ e. rw e (by-test (ltb (withFF (c .place .start)) (sizeHere c)) (λ q. rw q (omega arith)) (λ q. rw q (omega arith)));
       }
 
-  -- a window's cells and its tail
-  tail-short : (p : Place) → length (tail p) ≤ 3
-  tail-short p = by-test (ltb 1 (p .left)) (λ q. rw q (omega arith)) (λ q. rw q (omega arith))
-
+  -- a window's cells and its tail, of three bytes at most
   window-short : (first last : ℕ) → length (window c m first last) ≤ last - first + 4
-  window-short first last =
-      omega (
-        arith,
-        length-append (take (last - first + 1) (drop (baseOf (c .kinds) (c .place .device) + first) m)) (tail (c .place)),
-        length-take (last - first + 1) (drop (baseOf (c .kinds) (c .place .device) + first) m),
-        tail-short (c .place),
-      )
+  window-short first last = omega (arith, window-least c m first last, after-most (c .place))
 
   row-12 : Closed-at c m 12
   unfolding closingBytes closingNumber
@@ -106,28 +100,31 @@ module _ (c : Chain) (m : List ℕ) (s : Within c m) where
             rw e (omega (arith, window-short (c .place .next) (c .place .end)));
       }
 
-  -- the window up to the end that the low byte makes leaves room for one byte more
-  end-short : (p : Place) → withFF (p .end) < sizeHere c → p .start ≤ withFF (p .end)
-      → withLow (p .end) (endLow p) - p .start + 2 ≤ sizeHere c
-  end-short p l g =
-      by-test (eqb (p .end / 256) (p .start / 256))
-      (λ q. rw q (omega (arith, least, eqb-true (p .end / 256) (p .start / 256) q, div-add-mod' (p .start) 256)))
-      (λ q. rw q (omega arith))
+  row-2 : Closed-at c m 2
+  unfolding closingBytes closingNumber
+  row-2 =
+      record {
+        ends = λ e. shaped c m (ends-2 c m e) (rw e) (rw e);
+        short = λ e. rw e (by-test (checks c) (λ q. rw q (omega arith)) (λ q. rw q (omega (arith, least))));
+      }
 
+  -- the window up to 256h leaves room for the byte before it
   row-11 : Closed-at c m 11
   unfolding closingBytes closingNumber
   row-11 =
       record {
         ends = λ e. shaped c m (ends-11 c m small e (s .inside)) (rw e) (rw e);
-        short = λ e. rw e (by-test (refusesFF c) (λ q. rw q (omega arith)) (λ q. rw q (fits q)));
+        short = λ e.
+            rw e
+            (by-test (endsBelow (c .place)) (λ q. rw q (omega arith))
+            (λ b. by-test (refusesFF c) (λ q. rw (b, q) (omega arith)) (λ q. rw (b, q) (fits q))));
       }
     where
-      fits : refusesFF c ≡ false
-          → suc (length (window c m (c .place .start) (withLow (c .place .end) (endLow (c .place))))) ≤ sizeHere c + 3
+      fits : refusesFF c ≡ false → suc (length (window c m (c .place .start) (withLow (c .place .end) 0x00))) ≤ sizeHere c + 3
       fits q =
           let p = c .place in
           let t : (p .start ≤ withFF (p .end)) × (withFF (p .end) < sizeHere c) = says (search reads) q in
-          omega (arith, end-short p (t .1) (t .0), window-short (p .start) (withLow (p .end) (endLow p)))
+          omega (arith, window-short (p .start) (withLow (p .end) 0x00))
 
   every : Closed-at c m (c .place .awaited)
   unfolding closingBytes closingNumber
@@ -136,7 +133,7 @@ module _ (c : Chain) (m : List ℕ) (s : Within c m) where
       (no-case
       or record { ends = λ e. shaped c m (ends-0 c m e) (rw e) (rw e); short = λ e. rw e (omega arith) }
       or record { ends = λ e. shaped c m (ends-1 c m e) (rw e) (rw e); short = λ e. rw e (omega arith) }
-      or record { ends = λ e. shaped c m (ends-2 c m e (s .register e)) (rw e) (rw e); short = λ e. rw e (omega (arith, least)) }
+      or row-2
       or record { ends = λ e. shaped c m (ends-3 c m e) (rw e) (rw e); short = λ e. rw e (omega (arith, least)) }
       or record { ends = λ e. shaped c m (ends-4 c m e) (rw e) (rw e); short = λ e. rw e (omega (arith, least)) }
       or record { ends = λ e. shaped c m (ends-5 c m e) (rw e) (rw e); short = λ e. rw e (omega arith) }

@@ -4,5 +4,7 @@ pub mod Only
 pub mod Ends
 pub mod Rows
 pub mod Sound
+pub mod Least
+pub mod NoneShorter
 pub mod Closes
 pub mod AreBytes

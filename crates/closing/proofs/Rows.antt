@@ -1,6 +1,6 @@
 -- Each row of closing bytes ends a run that awaits its byte: by the byte's own step and the row of the byte after it. Assumes nothing.
-use Prim.Native.Nat.{ℕ, _+_, _-_, _*_, _/_, _<_, _≤_}
-use mathlib.Core.Bool.{true, false, _&&_, and-false, or-true}
+use Prim.Native.Nat.{ℕ, _+_, _-_, _*_, _/_, _%_, _<_, _≤_}
+use mathlib.Core.Bool.{true, false, _||_, and-false, or-true}
 use mathlib.Core.Path.{_≡_, refl, _∙_}
 use mathlib.Core.List.{List, [], _∷_}
 use native.Mathlib.Nat.{div-add-mod', mod-lt}
@@ -13,7 +13,7 @@ use Rattle.chain.proofs.ByCases.{by-test}
 use Rattle.chain.proofs.Means.{says, reads}
 use Rattle.chain.specs.declared.Chain.{Chain}
 use Rattle.chain.specs.declared.Place.{Place}
-use Rattle.chain.specs.Paper.{postamble, no-windows, at·preamble, at·second, at·control, at·address, at·address2, at·address3, at·count, at·null, at·start, at·start-low, at·end, at·end-low, at·data, at·check, done, no-preamble, bad-start, bad-end, more, B3}
+use Rattle.chain.specs.Paper.{postamble, no-windows, at·preamble, at·second, at·control, at·address, at·address2, at·address3, at·count, at·null, at·start, at·start-low, at·end, at·end-low, at·data, at·check, done, no-preamble, no-check, bad-start, bad-end, more}
 use Rattle.chain.specs.Rules.{pick}
 use Rattle.chain.specs.Set.{with·awaited, with·left, with·control, with·start, with·end, with·next, with·place}
 use Rattle.chain.specs.Kinds.{sizeAt, baseOf, sizeHere}
@@ -23,7 +23,7 @@ use Rattle.machine.specs.Run.{addressOf, memoryOf, registersOf, missedOf, count
 use Rattle.machine.specs.Block.{missesOf}
 use Rattle.machine.proofs.Runs.{registers-either}
 use Rattle.machine.proofs.Block.{blockOf, block, misses-same, laid-same}
-use Rattle.closing.specs.Closing.{storedRegister, withFF, tail, window, afterStart, refusesFF, endLow, afterEnd}
+use Rattle.closing.specs.Closing.{storedRegister, withFF, tail, window, afterPreamble, afterStart, endsBelow, refusesFF, afterEnd}
 use Rattle.closing.proofs.Ends.{Along, Ends, ends-last, ends-after, ends-step}
 
 -- one byte more taken
@@ -83,11 +83,11 @@ module _ (c : Chain) (m : List ℕ) where
   registers-2 : registersOf c (storedRegister c) ≡ c .registers
   registers-2 = registers-either c (storedRegister c) (λ g. g ≡ c .registers) (set-getD (c .registers) (c .place .device) 0) refl
 
-  number-2 : c .place .awaited ≡ at·control → (checks c && B3 (storedRegister c)) ≡ false → numberOf c (storedRegister c) ≡ more
+  number-2 : c .place .awaited ≡ at·control → checks c ≡ false → numberOf c (storedRegister c) ≡ more
   unfolding numberOf
   number-2 e h = simp (e, h, and-false)
 
-  step-2 : c .place .awaited ≡ at·control → (checks c && B3 (storedRegister c)) ≡ false
+  step-2 : c .place .awaited ≡ at·control → checks c ≡ false
       → stepOf c m (storedRegister c) ≡ run (with·place c (with·awaited (with·control (next c) (storedRegister c)) at·address)) m more
   unfolding stepOf memoryOf missedOf advanceOf
   step-2 e h = rw (number-2 e h, registers-2, e)
@@ -119,10 +119,17 @@ ends-4 c m e = ends-step c m done _ 0x00 (0x00 ∷ no-windows ∷ postamble ∷ 
 pub ends-3 : (c : Chain) (m : List ℕ) → c .place .awaited ≡ at·address → Ends c m (0x00 ∷ 0x00 ∷ 0x00 ∷ no-windows ∷ postamble ∷ []) done
 ends-3 c m e = ends-step c m done _ 0x00 (0x00 ∷ 0x00 ∷ no-windows ∷ postamble ∷ []) (step-3 c m 0x00 e) refl refl (ends-4 _ m refl)
 
-pub ends-2 : (c : Chain) (m : List ℕ) → c .place .awaited ≡ at·control → (checks c && B3 (storedRegister c)) ≡ false
-    → Ends c m (storedRegister c ∷ 0x00 ∷ 0x00 ∷ 0x00 ∷ no-windows ∷ postamble ∷ []) done
-ends-2 c m e h =
-    ends-step c m done _ (storedRegister c) (0x00 ∷ 0x00 ∷ 0x00 ∷ no-windows ∷ postamble ∷ []) (step-2 c m e h) refl refl (ends-3 _ m refl)
+-- in a check 08 is refused before anything is loaded
+ends-seven : (c : Chain) (m : List ℕ) → c .place .awaited ≡ at·control → checks c ≡ true → Ends c m (0x08 ∷ []) no-check
+unfolding numberOf
+ends-seven c m e h = ends-last c m no-check 0x08 (simp (e, h)) (omega arith)
+
+pub ends-2 : (c : Chain) (m : List ℕ) → c .place .awaited ≡ at·control → Ends c m (afterPreamble c) (pick (checks c) no-check done)
+ends-2 c m e =
+    by-test (checks c) (λ q. rw q (ends-seven c m e q))
+    (λ q.
+    rw q
+    (ends-step c m done _ (storedRegister c) (0x00 ∷ 0x00 ∷ 0x00 ∷ no-windows ∷ postamble ∷ []) (step-2 c m e q) refl refl (ends-3 _ m refl)))
 
 -- a start or an end that is out of its bounds
 module _ (c : Chain) (m : List ℕ) (b : ℕ) where
@@ -205,27 +212,38 @@ ends-12 c m s e f g =
     ends-after c m (tailNumber p) (blockOf c m i bs) bs (tail p) w (block-along c m bs i (misses-same m i n (omega arith) (p .check)))
     (ends-tail c m (counted p (length bs) (missesOf (p .check) m i bs)) (length bs) s (omega arith))
 
--- the end that the low byte makes
-module _ (p : Place) (size : ℕ) (l : withFF (p .end) < size) (g : p .start ≤ withFF (p .end)) where
-  pub end-fits : (p .start ≤ withLow (p .end) (endLow p)) × (withLow (p .end) (endLow p) < size)
-  end-fits =
-      by-test (eqb (p .end / 256) (p .start / 256))
-      (λ q. rw q (omega (arith, eqb-true (p .end / 256) (p .start / 256) q, div-add-mod' (p .start) 256)))
-      (λ q. rw q (omega (arith, eqb-false (p .end / 256) (p .start / 256) q, div-add-mod' (p .start) 256, mod-lt (p .start) (lit< {m = 0} {n = 256} tt))))
+-- the end 256h: below start where h is the start's and the start's low byte is not zero; else an end, where 256h + 255 is one
+module _ (p : Place) where
+  end-below : endsBelow p ≡ true → withLow (p .end) 0x00 < p .start
+  end-below q =
+      let t : (p .end / 256 ≡ p .start / 256) × (p .start % 256 ≡ 0 → ⊥) = says (search reads) q in
+      omega (arith, t .0, t .1, div-add-mod' (p .start) 256)
 
--- FF is no end, or the endLow end is taken and the window is closed by its present cells
+  pub end-fits : endsBelow p ≡ false → p .start ≤ withFF (p .end) → p .start ≤ withLow (p .end) 0x00
+  end-fits q g =
+      by-test (eqb (p .end / 256) (p .start / 256))
+      (λ e.
+      let z : p .start % 256 ≡ 0 = says (search reads) (rw e at q) in
+      omega (arith, z, eqb-true (p .end / 256) (p .start / 256) e, div-add-mod' (p .start) 256))
+      (λ e. omega (arith, eqb-false (p .end / 256) (p .start / 256) e, div-add-mod' (p .start) 256, mod-lt (p .start) (lit< {m = 0} {n = 256} tt)))
+
+-- 00 is no end, or FF is none, or the end 256h is taken and the window is closed by its present cells
 pub ends-11 : (c : Chain) (m : List ℕ) → sizeHere c ≤ 65535 → c .place .awaited ≡ at·end-low
     → baseOf (c .kinds) (c .place .device) + sizeHere c ≤ length m
-    → Ends c m (afterEnd c m) (pick (refusesFF c) bad-end (tailNumber (c .place)))
+    → Ends c m (afterEnd c m) (pick (endsBelow (c .place) || refusesFF c) bad-end (tailNumber (c .place)))
 ends-11 c m s e i =
-    by-test (refusesFF c)
-    (λ q. rw q (ends-end c m 0xff e q))
-    (λ q.
     let p : Place = c .place in
+    by-test (endsBelow p)
+    (λ b. rw b (ends-end c m 0x00 e (rw (lt-ltb (withLow (p .end) 0x00) (p .start) (end-below p b)))))
+    (λ b.
+    by-test (refusesFF c)
+    (λ q. rw (b, q) (ends-end c m 0xff e q))
+    (λ q.
     let t : (p .start ≤ withFF (p .end)) × (withFF (p .end) < sizeHere c) = says (search reads) q in
-    let f = end-fits p (sizeHere c) (t .1) (t .0) in
-    rw q
-    (ends-step c m (tailNumber p) _ (endLow p) _
-    (step-11 c m (endLow p) e (rw (le-ltb (withLow (p .end) (endLow p)) (p .start) (f .0), lt-ltb (withLow (p .end) (endLow p)) (sizeHere c) (f .1))))
+    let f = end-fits p b (t .0) in
+    let l : withLow (p .end) 0x00 < sizeHere c = omega arith in
+    rw (b, q)
+    (ends-step c m (tailNumber p) _ 0x00 _
+    (step-11 c m 0x00 e (rw (le-ltb (withLow (p .end) 0x00) (p .start) f, lt-ltb (withLow (p .end) 0x00) (sizeHere c) l)))
     refl refl
-    (ends-12 _ m s refl (f .0) (omega arith))))
+    (ends-12 _ m s refl f (omega arith)))))

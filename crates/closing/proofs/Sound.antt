@@ -1,22 +1,18 @@
--- What closing leans on in a state whose run is open: what 'Well formed' says at some awaited bytes, and that the device lies in memory. Assumes nothing.
-use Prim.Native.Nat.{ℕ, zero, suc, _+_, _/_, _%_, _<_, _≤_}
-use mathlib.Core.Bool.{false, _&&_}
+-- What closing leans on in a state whose run is open: what 'Well formed' says of the cells awaited, and that the device lies in memory. Assumes nothing.
+use Prim.Native.Nat.{ℕ, zero, suc, _+_, _<_, _≤_}
 use mathlib.Core.Path.{_≡_}
 use mathlib.Core.List.{List, [], _∷_}
 use native.Mathlib.Nat.{not-suc-le-zero, le-of-suc-le-suc}
 use native.Mathlib.Omega.{arith}
 use lib.ListN.{length, getD}
-use borrow.Author.Tests.{eqb-true, eqb-false, ne-eqb}
+use borrow.Author.Tests.{eqb-false}
 use Rattle.chain.specs.declared.Chain.{Chain}
-use Rattle.chain.specs.Paper.{at·control, at·data, checking, done, bit3, B3}
+use Rattle.chain.specs.Paper.{at·data, done}
 use Rattle.chain.specs.Kinds.{sizeOf, baseOf, sizeHere}
 use Rattle.chain.specs.State.{openNumber}
 use Rattle.chain.proofs.Sizes.{size-most, size-least}
-use Rattle.chain.proofs.ByCases.{by-test}
 use Rattle.chain.proofs.BadChain.{m-known}
 use Rattle.chain.proofs.Sound.{sound-of}
-use Rattle.awaited.specs.Byte.{checks}
-use Rattle.closing.specs.Closing.{storedRegister}
 
 -- a device's memory ends where that of a later one begins, or before
 base-below : (ks : List ℕ) (i n : ℕ) → i < n → n ≤ length ks → baseOf ks i + sizeOf (getD ks i 0) ≤ baseOf ks n
@@ -32,7 +28,6 @@ pub record Within (c : Chain) (m : List ℕ) : Type 0 where
   pub least : 52 ≤ sizeHere c
   pub most : sizeHere c ≤ 16381
   pub inside : baseOf (c .kinds) (c .place .device) + sizeHere c ≤ length m
-  pub register : c .place .awaited ≡ at·control → (checks c && B3 (storedRegister c)) ≡ false
   pub cells : c .place .awaited ≡ at·data → (c .place .next ≤ c .place .end) × (c .place .end < sizeHere c)
 
 -- the struct holds eight kinds
@@ -48,7 +43,5 @@ within c m h eight =
       least = size-least kind (eqb-false (sizeOf kind) 0 (m-known kind .said (fits .known (p .device) (f .device-in-chain))));
       most = size-most kind;
       inside = omega (arith, fits .few, fits .exact, base-below (c .kinds) (p .device) (c .count) (f .device-in-chain) (omega (arith, fits .few)));
-      register = λ e.
-          by-test (checks c) (λ k. rw (k, ne-eqb (storedRegister c / bit3 % 2) 1 (f .at-2-checked (e, eqb-true (p .check) checking k)))) (λ k. rw k);
       cells = λ e. let w = f .at-12 e in (w .1, w .2);
     }

@@ -1,6 +1,7 @@
--- The closing bytes of a stopped run, by awaited byte, as document 01 lists them. Assumes nothing.
+-- The closing bytes of a stopped run, by awaited byte, as document 01 lists them; at 2 in a check and at 11 as document 02 has them. Assumes
+-- nothing.
 use Prim.Native.Nat.{ℕ, _+_}
-use mathlib.Core.Bool.{Bool}
+use mathlib.Core.Bool.{Bool, not, _&&_}
 use mathlib.Core.List.{List, [], _∷_, _++_}
 use lib.ListN.{getD, take, drop}
 use lib.Dec.{eqb, ltb}
@@ -10,6 +11,7 @@ use Rattle.chain.specs.Paper.{postamble, no-windows, at·preamble, at·second, 
 use Rattle.chain.specs.Rules.{pick, Row, _⇒_, rowOf}
 use Rattle.chain.specs.Kinds.{baseOf, sizeHere}
 use Rattle.chain.specs.Window.{highByte, lowByte, withLow, widthOf, endOutside}
+use Rattle.awaited.specs.Byte.{checks}
 
 -- the current device's stored register
 abbrev pub storedRegister : Chain → ℕ
@@ -27,23 +29,30 @@ tail p = pick (ltb 1 (p .left)) (0x00 ∷ 0xff ∷ 0xff ∷ []) (postamble ∷ [
 abbrev pub window : Chain → List ℕ → ℕ → ℕ → List ℕ
 window c m first last = take (widthOf first last) (drop (baseOf (c .kinds) (c .place .device) + first) m) ++ tail (c .place)
 
+-- at 2: in a check 08 alone, which sets B3: 7 ends the run. In a write the stored register, and a stream with no windows goes on from there
+abbrev pub afterPreamble : Chain → List ℕ
+afterPreamble c = pick (checks c) (0x08 ∷ []) (storedRegister c ∷ 0x00 ∷ 0x00 ∷ 0x00 ∷ no-windows ∷ postamble ∷ [])
+
 -- at 9: FF, then FF FF if that start is below size
 abbrev pub afterStart : Chain → List ℕ
 afterStart c = 0xff ∷ pick (ltb (withFF (c .place .start)) (sizeHere c)) (0xff ∷ 0xff ∷ []) []
 
--- at 11: 256h + 255 is no end, not below size or below start
+-- at 11: the end's high byte h is the start's, and the start's low byte is not zero: the end 256h is then below start
+abbrev pub endsBelow : Place → Bool
+endsBelow p = eqb (highByte (p .end)) (highByte (p .start)) && not (eqb (lowByte (p .start)) 0)
+
+-- at 11: 256h + 255 is no end: it is not below size, or it is below start
 abbrev pub refusesFF : Chain → Bool
 refusesFF c = endOutside (sizeHere c) (c .place .start) (withFF (c .place .end))
 
--- at 11: the start's low byte if h is the start's high byte, else 00
-abbrev pub endLow : Place → ℕ
-endLow p = pick (eqb (highByte (p .end)) (highByte (p .start))) (lowByte (p .start)) 0x00
-
--- at 11: FF, or a low byte and the window up to the end that it makes
+-- at 11, in this order: 00 alone where the end 256h is below start as above, also where FF would be refused too; FF alone where 256h + 255 is no
+-- end; else 00, and the window from start to 256h
 abbrev pub afterEnd : Chain → List ℕ → List ℕ
 afterEnd c m =
     let p = c .place in
-    pick (refusesFF c) (0xff ∷ []) (endLow p ∷ window c m (p .start) (withLow (p .end) (endLow p)))
+    pick (endsBelow p) (0x00 ∷ [])
+    (pick (refusesFF c) (0xff ∷ [])
+    (0x00 ∷ window c m (p .start) (withLow (p .end) 0x00)))
 
 -- by awaited byte
 abbrev pub closingRows : Chain → List ℕ → List (Row (List ℕ))
@@ -51,7 +60,7 @@ closingRows c m =
     let p = c .place in
     (at·preamble ⇒ 0x00 ∷ [])
     ∷ (at·second ⇒ 0x00 ∷ [])
-    ∷ (at·control ⇒ storedRegister c ∷ 0x00 ∷ 0x00 ∷ 0x00 ∷ no-windows ∷ postamble ∷ [])
+    ∷ (at·control ⇒ afterPreamble c)
     ∷ (at·address ⇒ 0x00 ∷ 0x00 ∷ 0x00 ∷ no-windows ∷ postamble ∷ [])
     ∷ (at·address2 ⇒ 0x00 ∷ 0x00 ∷ no-windows ∷ postamble ∷ [])
     ∷ (at·address3 ⇒ 0x00 ∷ no-windows ∷ postamble ∷ [])

@@ -19,7 +19,7 @@ ghost use mathlib.Core.Path.{_≡_};
 ghost use mathlib.Core.List.{_++_};
 ghost use Prim.Native.Nat.{_≤_};
 ghost use lib.ListN.{length};
-ghost use Rattle.closing.specs.Closing.{window, afterStart, endLow, afterEnd, closingBytes};
+ghost use Rattle.closing.specs.Closing.{window, afterPreamble, afterStart, endsBelow, afterEnd, closingBytes};
 ghost use Rattle.closing.specs.Calls.{Closing};
 ghost use Rattle.closing.specs.Put.{Put};
 
@@ -38,6 +38,20 @@ fn put_window(c: Chain, mem: &[u8], lead: &[u8], first: u16, last: u16, out: &mu
     put_three(out, lead, cells, &[POSTAMBLE])
 }
 
+// In a check 08 alone, refused with 7; in a write the rest of a stream without windows.
+fn put_after_preamble(c: Chain, out: &mut [u8]) -> Written
+    ensures { λ r. ⌜ Put (afterPreamble c) (now (out .entry)) r (now (out .exit)) ⌝ }
+{
+    if c.place.check == CHECKING {
+        return put(out, &[0x08]);
+    }
+    let rs = c.registers;
+    put(
+        out,
+        &[at8(rs, c.place.device), 0x00, 0x00, 0x00, NO_WINDOWS, POSTAMBLE],
+    )
+}
+
 fn put_after_start(c: Chain, out: &mut [u8]) -> Written
     ensures { λ r. ⌜ Put (afterStart c) (now (out .entry)) r (now (out .exit)) ⌝ }
 {
@@ -47,27 +61,25 @@ fn put_after_start(c: Chain, out: &mut [u8]) -> Written
     put(out, &[0xff])
 }
 
-// The start's low byte where both have one high byte, else 00.
-fn end_low(p: Place) -> u8
-    ensures { λ r. ⌜ r ≡ endLow p ⌝ }
+// Both have one high byte, and the start's low byte is not zero: 00 makes an end below start.
+fn ends_below(p: Place) -> bool
+    ensures { λ r. ⌜ r ≡ endsBelow p ⌝ }
 {
-    if p.end / 256 == p.start / 256 {
-        (p.start % 256) as u8
-    } else {
-        0x00
-    }
+    (p.end / 256 == p.start / 256) & (p.start % 256 != 0)
 }
 
 fn put_after_end(c: Chain, mem: &[u8], out: &mut [u8]) -> Written
     ensures { λ r. ⌜ Put (afterEnd c (now (mem .entry))) (now (out .entry)) r (now (out .exit)) ⌝ }
 {
     let p = c.place;
+    if ends_below(p) {
+        return put(out, &[0x00]);
+    }
     let most = with_low(p.end, 0xff);
     if (most < p.start) | !(most < size_here(c)) {
         return put(out, &[0xff]);
     }
-    let low = end_low(p);
-    put_window(c, mem, &[low], p.start, with_low(p.end, low), out)
+    put_window(c, mem, &[0x00], p.start, with_low(p.end, 0x00), out)
 }
 
 // The row of the awaited byte.
@@ -75,15 +87,11 @@ fn put_closing(c: Chain, mem: &[u8], out: &mut [u8]) -> Written
     ensures { λ r. ⌜ Put (closingBytes c (now (mem .entry))) (now (out .entry)) r (now (out .exit)) ⌝ }
 {
     let p = c.place;
-    let rs = c.registers;
     let a = p.awaited;
     match a {
         AT_PREAMBLE => put(out, &[0x00]),
         AT_SECOND => put(out, &[0x00]),
-        AT_CONTROL => put(
-            out,
-            &[at8(rs, p.device), 0x00, 0x00, 0x00, NO_WINDOWS, POSTAMBLE],
-        ),
+        AT_CONTROL => put_after_preamble(c, out),
         AT_ADDRESS => put(out, &[0x00, 0x00, 0x00, NO_WINDOWS, POSTAMBLE]),
         AT_ADDRESS2 => put(out, &[0x00, 0x00, NO_WINDOWS, POSTAMBLE]),
         AT_ADDRESS3 => put(out, &[0x00, NO_WINDOWS, POSTAMBLE]),

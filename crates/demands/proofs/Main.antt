@@ -1,34 +1,42 @@
 -- Start here: each sentence of the owner's three demands, the requests that have landed, and each loader that these shut out, with the statement
 -- that says it and the theorem that has it. The statements stand in specs/; that `ours` is the code, Promised has for each call. Assumes nothing.
-use Prim.Native.Nat.{ℕ, _≤_}
+use Prim.Native.Nat.{ℕ, _<_, _≤_}
 use mathlib.Core.Logic.{_⊎_}
 use mathlib.Core.Path.{_≡_}
-use mathlib.Core.List.{List, _∷_, _++_}
+use mathlib.Core.List.{List, [], _∷_, _++_}
 use lib.ListN.{length, take}
 use Rattle.chain.specs.declared.Chain.{Chain}
+use Rattle.chain.specs.Paper.{no-check, more}
+use Rattle.chain.specs.Bytes.{Bytes}
+use Rattle.closing.specs.Closing.{closingBytes}
 use Rattle.hunt.specs.declared.Hunted.{Hunted}
 use Rattle.hunt.specs.Hunt.{nowhere, foundAt, huntedBytes}
 use Rattle.hunt.proofs.CutShort.{hunt-cut}
 use Rattle.grammar.specs.Sent.{bytesOf}
 use Rattle.grammar.specs.Stream.{Section, streamSent}
 use Rattle.grammar.specs.Fits.{Fitting}
-use Rattle.demands.specs.Loader.{Loader, Idle, Mode}
+use Rattle.demands.specs.Loader.{Loader, Idle, Open, Mode}
 use Rattle.demands.specs.Demand1.{Demand1}
-use Rattle.demands.specs.Demand2.{joined, ran, Demand2f}
+use Rattle.demands.specs.Demand2.{slices, joined, ran, Demand2f}
 use Rattle.demands.specs.Second.{Demand2}
 use Rattle.demands.specs.Demand3.{Demand3}
 use Rattle.demands.specs.WherePreamble.{Where, SaysWhere}
+use Rattle.demands.specs.Shortest.{Shortest}
 use Rattle.demands.specs.Ours.{ours}
 use Rattle.demands.specs.Cases.{table, All}
-use Rattle.demands.specs.Wrong.{constant, idle, taking, undoing, eager, exclusiveEnd, plainCount, barring, checkWrites, unloading, loadingFirst, earlierWins, shortClosing, offsetsFromFirst, leftBefore, fromOne, toldRefused}
+use Rattle.demands.specs.Wrong.{constant, idle, taking, undoing, eager, exclusiveEnd, plainCount, barring, checkWrites, unloading, loadingFirst, earlierWins, shortClosing, offering, OlderAtEnd, OlderAtControl, offsetsFromFirst, leftBefore, fromOne, toldRefused}
 use Rattle.demands.proofs.Demand1.{demand1}
 use Rattle.demands.proofs.Demand2.{demand2}
+use Rattle.demands.proofs.loads.StreamA.{cells0}
 use Rattle.demands.proofs.loads.TwelveCases.{twelve}
 use Rattle.demands.proofs.stops.StopsRight.{demand3}
+use Rattle.demands.proofs.stops.ShortestWay.{shortest, shorter-goes-on}
+use Rattle.demands.proofs.stops.AmendedPlaces.{Offers, two, at-two, AtEleven, at-eleven}
 use Rattle.demands.proofs.WherePreamble.{where-began, where-only}
 use Rattle.demands.proofs.wrong.Shut.{constant-out, idle-out, taken-out, per-slice-out}
 use Rattle.demands.proofs.wrong.Eager.{eager-out}
 use Rattle.demands.proofs.wrong.Readings.{exclusive-end-out, plain-count-out, barring-out, check-writes-out, unloading-out, loading-first-out, earlier-wins-out, undoing-out, short-closing-out, offsets-out}
+use Rattle.demands.proofs.wrong.OlderClosing.{older-end-out, older-control-out, nothing-out}
 use Rattle.demands.proofs.wrong.HuntFigures.{left-before-out, from-one-out, told-refused-out}
 
 -- 1. 'It takes every byte string, mode, chain and saved place. Public calls ask nothing of the caller. Each refusal has its number in
@@ -68,6 +76,25 @@ began-once = where-only
 pub check-leaves : Demand2f ours
 check-leaves = demand2 .f
 
+-- Document 02, wish 8: 'For the byte at 11, send 00 when h equals the start's high byte and the start's low byte is not zero: the end is then below
+-- start.' By the rows at 11
+pub sent-at-11 : AtEleven
+sent-at-11 = at-eleven
+
+-- 'In a check at 2, send 08 alone: number 7 ends it.'
+pub sent-at-2 : Offers two cells0 (0x08 ∷ []) no-check
+sent-at-2 = at-two
+
+-- 'With both amendments prove that no shorter byte string, from the same open place and memory, ends the run with every cell and register as it
+-- was.'
+pub shortest-way : Shortest ours
+shortest-way = shortest
+
+-- and more than was asked for: fewer bytes leave the run open, whatever they change; so do the closing bytes before their last
+pub fewer-go-on : (c : Chain) (m : List ℕ) → Open c m → (ps : List (List ℕ)) (last : List ℕ) → Bytes (joined ps ++ last)
+    → length (joined ps ++ last) < length (closingBytes c m) → slices ours c m ps last .fed .answer .number ≡ more
+fewer-go-on = shorter-goes-on
+
 -- The twelve cases of the paper, one table
 pub twelve-cases : All 1 table
 twelve-cases = twelve
@@ -100,6 +127,10 @@ pub record ShutOut : Type 0 where
   -- closing bytes one short; offsets from the stream's first byte
   pub closing-short : Demand3 shortClosing → ⊥
   pub offsets-first : Demand2 offsetsFromFirst → ⊥
+  -- document 02, wish 8: document 01's closing bytes at 11, and at 2 in a check, whatever is offered elsewhere; none at all
+  pub older-at-end : (f : Chain → List ℕ → List ℕ) → OlderAtEnd f → Shortest (offering f) → ⊥
+  pub older-at-control : (f : Chain → List ℕ → List ℕ) → OlderAtControl f → Shortest (offering f) → ⊥
+  pub offers-nothing : Shortest (offering (λ c m. [])) → ⊥
   -- the hunt: the bits before the preamble for those left; positions from 1; a position with a refusal
   pub left-before : SaysWhere leftBefore → ⊥
   pub from-one : SaysWhere fromOne → ⊥
@@ -122,6 +153,9 @@ shut-out =
       check-loads-first = λ d. loading-first-out (d .d);
       closing-short = short-closing-out;
       offsets-first = λ d. offsets-out (d .b);
+      older-at-end = older-end-out;
+      older-at-control = older-control-out;
+      offers-nothing = nothing-out;
       left-before = left-before-out;
       from-one = from-one-out;
       told-refused = told-refused-out;

@@ -4,3 +4,4 @@ pub mod Eager
 pub mod Readings
 pub mod RefusedChecks
 pub mod HuntFigures
+pub mod OlderClosing

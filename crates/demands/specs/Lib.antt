@@ -7,6 +7,7 @@ pub mod Loader
 pub mod WherePreamble
 pub mod Demand2
 pub mod Demand3
+pub mod Shortest
 pub mod Files
 pub mod Second
 pub mod Ours

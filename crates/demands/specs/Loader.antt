@@ -70,7 +70,7 @@ pub record Idle (c : Chain) (m : List ℕ) : Type 0 where
   pub sound : stateNumber c (length m) ≡ done
   pub closed-place : c .place .running ≡ closed
 
--- the same with a run open
+-- the same with a run open, to which bytes can be fed: not 1, 17 or 4
 pub record Open (c : Chain) (m : List ℕ) : Type 0 where
   pub kinds : length (c .kinds) ≡ 8
   pub registers : length (c .registers) ≡ 8

@@ -1,19 +1,22 @@
 -- Loaders that the demands shut out: ours, with one call replaced. Assumes nothing.
 use Prim.Native.Nat.{ℕ, _+_, _-_, _%_}
 use mathlib.Core.Bool.{_&&_, _||_, not}
+use mathlib.Core.Path.{_≡_}
 use mathlib.Core.List.{List, [], _∷_}
-use lib.Dec.{eqb}
+use lib.Dec.{eqb, ltb}
 use lib.ListN.{length, getD}
 use Rattle.chain.specs.declared.Chain.{Chain}
 use Rattle.chain.specs.declared.Place.{Place}
-use Rattle.chain.specs.Paper.{at·address, at·count, at·null, at·end-low, at·data, at·check, writing, two-preambles, done, barred, no-check, too-short, more, B4}
-use Rattle.chain.specs.Rules.{pick}
-use Rattle.chain.specs.Output.{onDone}
+use Rattle.chain.specs.Paper.{postamble, no-windows, at·control, at·address, at·count, at·null, at·end-low, at·data, at·check, writing, checking, two-preambles, done, barred, no-check, too-short, more, B4}
+use Rattle.chain.specs.Rules.{pick, _gives_, firstOf}
+use Rattle.chain.specs.Output.{onDone, writtenOf, outputOf}
 use Rattle.chain.specs.Set.{with·check, with·awaited, with·left, with·end, with·place}
-use Rattle.chain.specs.State.{feedNumber}
+use Rattle.chain.specs.State.{openRules, feedNumber}
+use Rattle.chain.specs.Window.{highByte, lowByte, withLow}
 use Rattle.awaited.specs.Byte.{awaits}
 use Rattle.machine.specs.Run.{writes, addressOf, registersOf, ended, Run, run, stepOf}
 use Rattle.machine.specs.Calls.{answered, fedOf}
+use Rattle.closing.specs.Closing.{storedRegister, window, refusesFF}
 use Rattle.hunt.specs.declared.Hunted.{Hunted}
 use Rattle.hunt.specs.Hunt.{foundAt}
 use Rattle.demands.specs.Loader.{Loader, AfterSlice, with·slice, with·closing, with·list, with·hunt}
@@ -116,6 +119,33 @@ shortClosing =
     (λ c m out.
     let w = ours .closing c m out in
     record { written = record { number = w .written .number; length = w .written .length - 1 }; out = w .out })
+
+-- ours, with the bytes of f offered as closing bytes; refused as ours is, 15 by their own length
+abbrev pub offering : (Chain → List ℕ → List ℕ) → Loader
+offering f =
+    with·closing ours
+    (λ c m out.
+    let n = firstOf (openRules c (length m) ((ltb (length out) (length (f c m)) gives too-short) ∷ [])) done in
+    record { written = writtenOf n (f c m); out = outputOf n (f c m) out })
+
+-- document 01's closing bytes at 11, before wish 8: FF where 256h + 255 is no end, else the start's low byte if h is the start's high byte, else 00,
+-- and the window
+abbrev pub olderEnd : Chain → List ℕ → List ℕ
+olderEnd c m =
+    let p = c .place in
+    let low = pick (eqb (highByte (p .end)) (highByte (p .start))) (lowByte (p .start)) 0x00 in
+    pick (refusesFF c) (0xff ∷ []) (low ∷ window c m (p .start) (withLow (p .end) low))
+
+-- and at 2, in a check too: the stored register, 00 00 00 FF 4D
+abbrev pub olderControl : Chain → List ℕ
+olderControl c = storedRegister c ∷ 0x00 ∷ 0x00 ∷ 0x00 ∷ no-windows ∷ postamble ∷ []
+
+-- f offers these at every such place, and anything elsewhere
+abbrev pub OlderAtEnd : (Chain → List ℕ → List ℕ) → Type 0
+OlderAtEnd f = (c : Chain) (m : List ℕ) → c .place .awaited ≡ at·end-low → f c m ≡ olderEnd c m
+
+abbrev pub OlderAtControl : (Chain → List ℕ → List ℕ) → Type 0
+OlderAtControl f = (c : Chain) (m : List ℕ) → c .place .awaited ≡ at·control → c .place .check ≡ checking → f c m ≡ olderControl c
 
 -- offsets from the stream's first byte, which in mode 6 is not the preamble before the control byte
 abbrev pub oneMore : List ℕ → List ℕ

@@ -19,6 +19,8 @@ fn closing_bytes(chain: &Chain, memory: &[u8]) -> Vec<u8> {
     let stored = chain.registers[place.device as usize];
     match place.awaited {
         AT_PREAMBLE | AT_SECOND_PREAMBLE => vec![0x00],
+        // Document 02: "In a check at 2, send 08 alone: number 7 ends it."
+        AT_CONTROL if place.check == 1 => vec![0x08],
         AT_CONTROL => vec![stored, 0x00, 0x00, 0x00, 0xFF, 0x4D],
         // "3 to 5: the missing address bytes as 00, then FF 4D."
         AT_ADDRESS_LOW => vec![0x00, 0x00, 0x00, 0xFF, 0x4D],
@@ -48,17 +50,21 @@ fn closing_bytes(chain: &Chain, memory: &[u8]) -> Vec<u8> {
     }
 }
 
-/// "11, with end high byte h: FF if 256h + 255 is not below size or is below start. Otherwise the start's low byte if
-/// h is the start's high byte, else 00; then the window's present cells, then the tail."
+/// "11, with end high byte h". Document 02: "send 00 when h equals the start's high byte and the start's low byte is not
+/// zero: the end is then below start." Then document 01: "FF if 256h + 255 is not below size or is below start. Otherwise
+/// the start's low byte if h is the start's high byte, else 00", and either is 00 by now; "then the window's present
+/// cells, then the tail."
 fn at_end_low(chain: &Chain, memory: &[u8], size: usize) -> Vec<u8> {
     let start = chain.place.start as usize;
     let h = chain.place.end as usize / 256;
+    if h == start / 256 && start % 256 != 0 {
+        return vec![0x00];
+    }
     if 256 * h + 255 >= size || 256 * h + 255 < start {
         return vec![0xFF];
     }
-    let low = if h == start / 256 { start % 256 } else { 0 };
-    let mut bytes = vec![low as u8];
-    bytes.extend(cells(chain, memory, start, 256 * h + low));
+    let mut bytes = vec![0x00];
+    bytes.extend(cells(chain, memory, start, 256 * h));
     bytes.extend(tail(chain));
     bytes
 }
