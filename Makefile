@@ -1,5 +1,5 @@
 # make demo   lists a sample stream, then runs a controller's main loop in C: stop, close, start afresh; save, drop, pick up
-# make test   every proof, must-fail edit and program from nothing; then what the documents cite, header, C example, comparison with the model, stack, listing program: the last line is rt's own
+# make test   every proof, must-fail edit and program from nothing; then what the documents cite, header, C example, comparison with the model, stack, shorter ways out, listing program: the last line is rt's own
 # make lib    the archive for C: target/staticlib/libat6000.a
 # make bench  the archive against safe Rust and memcpy, and its instructions counted job by job (docs/SPEED.md)
 # make fmt    lay out the Rattle sources

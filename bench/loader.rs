@@ -109,6 +109,13 @@ pub fn differ_tuned(a: &[u8], b: &[u8]) -> u32 {
     a.chunks(240).zip(b.chunks(240)).map(|(x, y)| few(x, y) as u32).sum()
 }
 
+/// Closing bytes without a cell among them.
+fn few(out: &mut [u8], bytes: &[u8]) -> (u8, usize) {
+    let Some(out) = out.get_mut(..bytes.len()) else { return (15, 0) };
+    out.copy_from_slice(bytes);
+    (0, bytes.len())
+}
+
 fn barred(register: u8, check: bool) -> Option<u8> {
     if register & 16 != 0 {
         Some(6)
@@ -336,7 +343,7 @@ impl Chain {
         None
     }
 
-    /// The closing bytes: a few of their own, then present cells, then what follows a window.
+    /// The closing bytes: a few, or in a window a byte or none, its present cells, and what follows it.
     #[inline(never)]
     pub fn closing(&self, memory: &[u8], out: &mut [u8]) -> (u8, usize) {
         if let Some(n) = self.refusal(memory.len()) {
@@ -344,23 +351,24 @@ impl Chain {
         }
         let Some(run) = self.run else { return (4, 0) };
         let cells = &memory[self.cells(run.device)];
-        let empty = [self.registers[run.device], 0, 0, 0, 0xff, POSTAMBLE];
-        let tail: &[u8] = if run.left > 1 { &[0, 0xff, 0xff] } else { &[POSTAMBLE] };
-        let (lead, window, tail): (&[u8], &[u8], &[u8]) = match run.awaited {
-            Preamble | Second => (&[0], &[], &[]),
-            Control if run.check => (&[8], &[], &[]),
-            Control => (&empty, &[], &[]),
-            Address(n) => (&empty[n as usize + 1..], &[], &[]),
-            Count => (&empty[4..], &[], &[]),
-            Null => (&[0, 0xff, 0xff], &[], &[]),
-            StartHigh | EndHigh => (&[0xff, 0xff], &[], &[]),
-            StartLow if run.start + 255 < cells.len() => (&[0xff, 0xff, 0xff], &[], &[]),
-            EndLow if run.end >> 8 == run.start >> 8 && run.start & 255 != 0 => (&[0], &[], &[]),
-            EndLow if run.end + 255 < cells.len() && run.start <= run.end + 255 => (&[0], &cells[run.start..=run.end], tail),
-            StartLow | EndLow => (&[0xff], &[], &[]),
-            Data => (&[], &cells[run.next..=run.end], tail),
-            Check => (&empty[5..], &[], &[]),
+        let (lead, window): (&[u8], &[u8]) = match run.awaited {
+            Preamble | Second => return few(out, &[0]),
+            Control if run.check => return few(out, &[8]),
+            Control => return few(out, &[self.registers[run.device], 0, 0, 0, 0xff, POSTAMBLE]),
+            Address(0) => return few(out, &[0, 0, 0, 0xff, POSTAMBLE]),
+            Address(1) => return few(out, &[0, 0, 0xff, POSTAMBLE]),
+            Address(_) => return few(out, &[0, 0xff, POSTAMBLE]),
+            Count => return few(out, &[0xff, POSTAMBLE]),
+            Null => return few(out, &[0, 0xff, 0xff]),
+            StartHigh | EndHigh => return few(out, &[0xff, 0xff]),
+            StartLow if run.start + 255 < cells.len() => return few(out, &[0xff, 0xff, 0xff]),
+            EndLow if run.end >> 8 == run.start >> 8 && run.start & 255 != 0 => return few(out, &[0]),
+            EndLow if run.end + 255 < cells.len() && run.start <= run.end + 255 => (&[0], &cells[run.start..=run.end]),
+            StartLow | EndLow => return few(out, &[0xff]),
+            Data => (&[], &cells[run.next..=run.end]),
+            Check => return few(out, &[POSTAMBLE]),
         };
+        let tail: &[u8] = if run.left > 1 { &[0, 0xff, 0xff] } else { &[POSTAMBLE] };
         let length = lead.len() + window.len() + tail.len();
         let Some(out) = out.get_mut(..length) else { return (15, 0) };
         let (front, rest) = out.split_at_mut(lead.len());

@@ -1,5 +1,5 @@
 -- The closing bytes are bytes, each row of them. Assumes nothing.
-use Prim.Native.Nat.{ℕ, _+_, _<_}
+use Prim.Native.Nat.{ℕ, _+_}
 use mathlib.Core.Bool.{Bool, true, false}
 use mathlib.Core.Path.{refl}
 use mathlib.Core.List.{List, [], _∷_}

@@ -1,24 +1,24 @@
 -- How many bytes an open run needs at least to end, by awaited byte: no byte brings that number down by more than one, and none ends a run that
 -- needs two. Of every chain and place, over the size; asked is only that what is fed are bytes. Assumes nothing.
-use Prim.Native.Nat.{ℕ, suc, _+_, _-_, _*_, _/_, _<_, _≤_}
+use Prim.Native.Nat.{ℕ, suc, _+_, _<_, _≤_}
 use mathlib.Core.Bool.{Bool, true, false, _&&_, _||_, and-false}
 use mathlib.Core.Path.{_≡_, refl}
 use mathlib.Core.List.{List, [], _∷_}
 use native.Mathlib.Omega.{arith}
-use lib.Dec.{T, eqb, ltb, leb}
+use lib.Dec.{eqb, ltb, leb}
 use lib.ListN.{length}
 use borrow.Author.Tests.{ne-eqb, lt-ltb, le-ltb, eqb-true, eqb-false, ltb-true, ltb-false, leb-true, leb-false}
 use Rattle.chain.proofs.ByCases.{by-test, no-case, _or_, below}
 use Rattle.chain.proofs.Means.{says, reads}
 use Rattle.chain.specs.declared.Chain.{Chain}
 use Rattle.chain.specs.declared.Place.{Place}
-use Rattle.chain.specs.Paper.{at·preamble, at·second, at·control, at·address, at·address2, at·address3, at·count, at·null, at·start, at·start-low, at·end, at·end-low, at·data, at·check, no-windows, two-preambles, more}
+use Rattle.chain.specs.Paper.{at·preamble, at·second, at·control, at·address, at·address2, at·address3, at·count, at·null, at·start, at·start-low, at·end, at·end-low, at·data, at·check, no-windows, more}
 use Rattle.chain.specs.Rules.{pick, Row, _⇒_, rowOf}
 use Rattle.chain.specs.Bytes.{Bytes}
 use Rattle.chain.specs.Set.{with·awaited, with·place}
 use Rattle.chain.specs.Kinds.{sizeHere}
 use Rattle.chain.specs.Window.{withLow, widthOf}
-use Rattle.awaited.specs.Byte.{checks, badStart, badEnd, numberOf, passedOf, advanceOf}
+use Rattle.awaited.specs.Byte.{checks, numberOf, passedOf, advanceOf}
 use Rattle.machine.specs.Run.{missedOf, memoryOf, counted, Run, run, goneOn, wentOn, runOf}
 use Rattle.machine.proofs.Runs.{run-went, run-ended}
 use Rattle.closing.specs.Closing.{withFF, endsBelow, refusesFF}

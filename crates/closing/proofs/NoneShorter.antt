@@ -1,7 +1,6 @@
 -- The closing bytes are at most as many as their run needs at least, so no shorter string of bytes ends it, whatever that string changes. Of every
 -- chain, place and memory. Assumes nothing.
-use Prim.Native.Nat.{ℕ, suc, _+_, _-_, _<_, _≤_}
-use mathlib.Core.Bool.{_||_}
+use Prim.Native.Nat.{ℕ, _+_, _<_, _≤_}
 use mathlib.Core.Path.{_≡_, refl}
 use mathlib.Core.List.{List, []}
 use native.Mathlib.Omega.{arith}

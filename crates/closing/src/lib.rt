@@ -46,10 +46,8 @@ fn put_after_preamble(c: Chain, out: &mut [u8]) -> Written
         return put(out, &[0x08]);
     }
     let rs = c.registers;
-    put(
-        out,
-        &[at8(rs, c.place.device), 0x00, 0x00, 0x00, NO_WINDOWS, POSTAMBLE],
-    )
+    let stored = at8(rs, c.place.device);
+    put(out, &[stored, 0x00, 0x00, 0x00, NO_WINDOWS, POSTAMBLE])
 }
 
 fn put_after_start(c: Chain, out: &mut [u8]) -> Written

@@ -10,8 +10,8 @@ returns c =
 
 returns-2 : tie.Need-returns-2
 returns-2 c =
-    let register = c .before .before .before .before in
-    let test = register .before .before .before in
+    let register = c .before .before .before .before .before in
+    let test = register .before .before in
     rw (ne-eqb _ _ (test .if1 .left)) (rw (register .at8 .ensures) at (c .before .before .put2 .ensures))
 
 pub put-after-preamble-spec : {M : Type 1} → statement M

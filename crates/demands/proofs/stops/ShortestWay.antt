@@ -1,6 +1,6 @@
 -- The closing bytes are the shortest way out of every open run: fewer bytes, in whatever cut, leave it open, whatever else they do. Assumes
 -- nothing.
-use Prim.Native.Nat.{ℕ, _+_, _≤_, _<_}
+use Prim.Native.Nat.{ℕ, _≤_, _<_}
 use mathlib.Core.Path.{_≡_, ap, sym, subst, _∙_}
 use mathlib.Core.List.{List, [], _∷_, _++_, append-assoc}
 use native.Mathlib.Omega.{arith}
@@ -19,13 +19,13 @@ use Rattle.grammar.proofs.runs.Slices.{slice-number, fed-over, fed-number}
 use Rattle.closing.specs.Closing.{closingBytes}
 use Rattle.closing.proofs.Least.{least, run-needs}
 use Rattle.closing.proofs.NoneShorter.{closing-least}
-use Rattle.demands.specs.Loader.{AfterSlice, offered, Open}
+use Rattle.demands.specs.Loader.{AfterSlice, Open}
 use Rattle.demands.specs.Demand2.{slices, joined}
 use Rattle.demands.specs.Shortest.{WayOut, Shortest}
 use Rattle.demands.specs.Ours.{ours}
 use Rattle.demands.proofs.loads.Cuts.{slice-goes, slice-ends}
-use Rattle.demands.proofs.loads.LoadRuns.{left, slice-is}
-use Rattle.demands.proofs.stops.ClosingCuts.{Shuts, offers, shuts, room, closing-cut, closing-some}
+use Rattle.demands.proofs.loads.LoadRuns.{slice-is}
+use Rattle.demands.proofs.stops.ClosingCuts.{offers, shuts, room, closing-cut, closing-some}
 
 -- ---- bytes that end a run, cut into slices in any way, are as many as it needs
 
