@@ -85,7 +85,9 @@ static int walk(size_t length, size_t most)
     const at6000_chain *now = &level[length];
     uint8_t *cell = mem + now->place.device * size_of(now->kinds[0]) + now->place.next, held = *cell;
 
-    for (size_t i = 0; length < most && i < VALUES; i++) {
+    if (length == most || length + 1 == WALKED)
+        return 0;
+    for (size_t i = 0; i < VALUES; i++) {
         at6000_chain *next = &level[length + 1];
 
         *next = *now;

@@ -6,7 +6,7 @@ use mathlib.Core.Path.{_≡_}
 use mathlib.Core.List.{List, [], _∷_, _++_}
 use lib.ListN.{length, take}
 use Rattle.chain.specs.declared.Chain.{Chain}
-use Rattle.chain.specs.Paper.{no-check, more}
+use Rattle.chain.specs.Paper.{more}
 use Rattle.chain.specs.Bytes.{Bytes}
 use Rattle.closing.specs.Closing.{closingBytes}
 use Rattle.hunt.specs.declared.Hunted.{Hunted}
@@ -21,17 +21,16 @@ use Rattle.demands.specs.Demand2.{slices, joined, ran, Demand2f}
 use Rattle.demands.specs.Second.{Demand2}
 use Rattle.demands.specs.Demand3.{Demand3}
 use Rattle.demands.specs.WherePreamble.{Where, SaysWhere}
-use Rattle.demands.specs.Shortest.{Shortest}
+use Rattle.demands.specs.Shortest.{Amended, Shortest}
 use Rattle.demands.specs.Ours.{ours}
 use Rattle.demands.specs.Cases.{table, All}
 use Rattle.demands.specs.Wrong.{constant, idle, taking, undoing, eager, exclusiveEnd, plainCount, barring, checkWrites, unloading, loadingFirst, earlierWins, shortClosing, offering, OlderAtEnd, OlderAtControl, offsetsFromFirst, leftBefore, fromOne, toldRefused}
 use Rattle.demands.proofs.Demand1.{demand1}
 use Rattle.demands.proofs.Demand2.{demand2}
-use Rattle.demands.proofs.loads.StreamA.{cells0}
 use Rattle.demands.proofs.loads.TwelveCases.{twelve}
 use Rattle.demands.proofs.stops.StopsRight.{demand3}
+use Rattle.demands.proofs.stops.Amendments.{amended}
 use Rattle.demands.proofs.stops.ShortestWay.{shortest, shorter-goes-on}
-use Rattle.demands.proofs.stops.AmendedPlaces.{Offers, two, at-two, AtEleven, at-eleven}
 use Rattle.demands.proofs.WherePreamble.{where-began, where-only}
 use Rattle.demands.proofs.wrong.Shut.{constant-out, idle-out, taken-out, per-slice-out}
 use Rattle.demands.proofs.wrong.Eager.{eager-out}
@@ -77,13 +76,9 @@ pub check-leaves : Demand2f ours
 check-leaves = demand2 .f
 
 -- Document 02, wish 8: 'For the byte at 11, send 00 when h equals the start's high byte and the start's low byte is not zero: the end is then below
--- start.' By the rows at 11
-pub sent-at-11 : AtEleven
-sent-at-11 = at-eleven
-
--- 'In a check at 2, send 08 alone: number 7 ends it.'
-pub sent-at-2 : Offers two cells0 (0x08 ∷ []) no-check
-sent-at-2 = at-two
+-- start. In a check at 2, send 08 alone: number 7 ends it.' AmendedPlaces has each row at 11 by computation
+pub amended-bytes : Amended ours
+amended-bytes = amended
 
 -- 'With both amendments prove that no shorter byte string, from the same open place and memory, ends the run with every cell and register as it
 -- was.'

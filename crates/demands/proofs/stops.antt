@@ -2,4 +2,5 @@
 pub mod ClosingCuts
 pub mod StopsRight
 pub mod ShortestWay
+pub mod Amendments
 pub mod AmendedPlaces
