@@ -159,21 +159,21 @@ module _ (c : Chain) (p : Place) (b : ℕ) where
       (p .awaited)
 
 -- a byte that leaves the run open, with k mismatches more, and one that ends it
-module _ (c : Chain) (b k : ℕ) (small : b < 256) where
-  abbrev q : Place
-  q = counted (c .place) 1 k
+record Steps (c : Chain) (b k : ℕ) : Type 0 where
+  pub goes : numberOf c b ≡ more → least c ≤ suc (least (goneOn c k b))
+  pub ends : (numberOf c b ≡ more → ⊥) → least c ≤ 1
 
-  step-goes : numberOf c b ≡ more → least c ≤ suc (least (goneOn c k b))
-  unfolding least numberOf
-  step-goes n =
-      by-test (ltb (c .place .awaited) 14) (λ e. nearer c q b small (ltb-true (c .place .awaited) 14 e) .goes n)
-      (λ e. rw (no-row 14 (c .place .awaited) (leastRows c) 0 refl (ltb-false (c .place .awaited) 14 e)) (omega arith))
-
-  step-ends : (numberOf c b ≡ more → ⊥) → least c ≤ 1
-  unfolding least numberOf
-  step-ends n =
-      by-test (ltb (c .place .awaited) 14) (λ e. nearer c q b small (ltb-true (c .place .awaited) 14 e) .ends n)
-      (λ e. rw (no-row 14 (c .place .awaited) (leastRows c) 0 refl (ltb-false (c .place .awaited) 14 e)) (omega arith))
+step-needs : (c : Chain) (b k : ℕ) → b < 256 → Steps c b k
+unfolding least numberOf
+step-needs c b k small =
+    let a = c .place .awaited in
+    by-test (ltb a 14)
+    (λ e.
+    let n = nearer c (counted (c .place) 1 k) b small (ltb-true a 14 e) in
+    record { goes = n .goes; ends = n .ends })
+    (λ e.
+    let z : least c ≡ 0 = no-row 14 a (leastRows c) 0 refl (ltb-false a 14 e) in
+    record { goes = λ _. omega (arith, z); ends = λ _. omega (arith, z) })
 
 -- ---- a run of them
 
@@ -189,10 +189,10 @@ run-needs (b ∷ bs) small c m =
     by-test (eqb (numberOf c b) more)
     (λ e.
     let g = eqb-true (numberOf c b) more e in
-    let s = step-goes c b (missedOf c m b) (small .0) g in
+    let s = step-needs c b (missedOf c m b) (small .0) .goes g in
     let f = run-needs bs (small .1) (wentOn c m b) (memoryOf c m b) in
     rw (run-went c m b bs g) (record { goes = λ n. omega (arith, s, f .goes n); ends = λ n. omega (arith, s, f .ends n) }))
     (λ e.
     let g = eqb-false (numberOf c b) more e in
-    let s = step-ends c b 0 (small .0) g in
+    let s = step-needs c b 0 (small .0) .ends g in
     rw (run-ended c m b bs g) (record { goes = λ n. absurd (g n); ends = λ _. omega (arith, s) }))
