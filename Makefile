@@ -1,5 +1,5 @@
-# make demo   lists a sample stream, then runs a controller's main loop in C: stop, close, start afresh; save, drop, pick up
-# make test   every proof, must-fail edit and program from nothing; then what the documents cite, header, C example, comparison with the model, stack, shorter ways out, listing program: the last line is rt's own
+# make demo   lists a sample stream, then runs a controller's main loop in C: stop, close, start afresh; save, drop, pick up; then stacks two patches and joins them
+# make test   every proof, must-fail edit and program from nothing; then what the documents cite, header, C examples, comparison with the model, stack, shorter ways out, listing program: the last line is rt's own
 # make lib    the archive for C: target/staticlib/libat6000.a
 # make bench  the archive against safe Rust and memcpy, and its instructions counted job by job (docs/SPEED.md)
 # make fmt    lay out the Rattle sources
@@ -11,7 +11,8 @@ listing = target/bin/listing
 demo: lib
 	rt check listing
 	sh examples/list.sh $(listing)
-	sh examples/run.sh $(archive)
+	sh examples/run.sh $(archive) controller
+	sh examples/run.sh $(archive) patches
 
 test:
 	sh tests/gate.sh

@@ -16,6 +16,7 @@ PARTS = [
     ("demands 2 and 3", ["grammar/Fits", "grammar/Stores", "demands/Loader", "demands/Demand2", "demands/Files", "demands/Second", "demands/Demand3", "demands/Ours"]),
     ("wish 4", ["demands/WherePreamble"]),
     ("wish 8", ["demands/Shortest"]),
+    ("wish 9", ["demands/Patches", "demands/WrittenOnce"]),
     ("the loaders shut out", ["demands/Wrong"]),
     ("the twelve cases", ["demands/Cases"]),
     ("the listing program", ["listing/Lines", "listing/Program"]),

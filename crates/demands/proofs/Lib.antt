@@ -4,6 +4,7 @@ pub mod loads
 pub mod files
 pub mod Demand2
 pub mod stops
+pub mod patches
 pub mod WherePreamble
 pub mod Promised
 pub mod EightDevices

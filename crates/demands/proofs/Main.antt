@@ -17,25 +17,32 @@ use Rattle.grammar.specs.Stream.{Section, streamSent}
 use Rattle.grammar.specs.Fits.{Fitting}
 use Rattle.demands.specs.Loader.{Loader, Idle, Open, Mode}
 use Rattle.demands.specs.Demand1.{Demand1}
-use Rattle.demands.specs.Demand2.{slices, joined, ran, Demand2f}
+use Rattle.demands.specs.Demand2.{slices, joined, ran, Demand2a, Demand2e, Demand2f}
+use Rattle.demands.specs.Files.{Demand2b, Demand2c}
 use Rattle.demands.specs.Second.{Demand2}
 use Rattle.demands.specs.Demand3.{Demand3}
 use Rattle.demands.specs.WherePreamble.{Where, SaysWhere}
 use Rattle.demands.specs.Shortest.{Amended, Shortest}
+use Rattle.demands.specs.Patches.{PatchesExactly, Apart, AnyOrder, Stacked}
+use Rattle.demands.specs.WrittenOnce.{WrittenAsOne}
 use Rattle.demands.specs.Ours.{ours}
 use Rattle.demands.specs.Cases.{table, All}
-use Rattle.demands.specs.Wrong.{constant, idle, taking, undoing, eager, exclusiveEnd, plainCount, barring, checkWrites, unloading, loadingFirst, earlierWins, shortClosing, offering, OlderAtEnd, OlderAtControl, offsetsFromFirst, leftBefore, fromOne, toldRefused}
+use Rattle.demands.specs.Wrong.{constant, idle, taking, undoing, eager, exclusiveEnd, plainCount, barring, checkWrites, unloading, loadingFirst, earlierWins, wiping, shortClosing, offering, OlderAtEnd, OlderAtControl, offsetsFromFirst, leftBefore, fromOne, toldRefused}
 use Rattle.demands.proofs.Demand1.{demand1}
 use Rattle.demands.proofs.Demand2.{demand2}
 use Rattle.demands.proofs.loads.TwelveCases.{twelve}
 use Rattle.demands.proofs.stops.StopsRight.{demand3}
 use Rattle.demands.proofs.stops.Amendments.{amended}
 use Rattle.demands.proofs.stops.ShortestWay.{shortest, shorter-goes-on}
+use Rattle.demands.proofs.patches.TwoLaws.{patches-exactly, apart, stacked}
+use Rattle.demands.proofs.patches.WrittenOnce.{written-as-one}
+use Rattle.demands.proofs.patches.TwoPatches.{any-order-out}
 use Rattle.demands.proofs.WherePreamble.{where-began, where-only}
 use Rattle.demands.proofs.wrong.Shut.{constant-out, idle-out, taken-out, per-slice-out}
 use Rattle.demands.proofs.wrong.Eager.{eager-out}
 use Rattle.demands.proofs.wrong.Readings.{exclusive-end-out, plain-count-out, barring-out, check-writes-out, unloading-out, loading-first-out, earlier-wins-out, undoing-out, short-closing-out, offsets-out}
 use Rattle.demands.proofs.wrong.OlderClosing.{older-end-out, older-control-out, nothing-out}
+use Rattle.demands.proofs.wrong.PatchOrders.{wiping-apart-out, wiping-stacked-out, barring-stacked-out, offsets-written-out}
 use Rattle.demands.proofs.wrong.HuntFigures.{left-before-out, from-one-out, told-refused-out}
 
 -- 1. 'It takes every byte string, mode, chain and saved place. Public calls ask nothing of the caller. Each refusal has its number in
@@ -90,6 +97,32 @@ pub fewer-go-on : (c : Chain) (m : List ℕ) → Open c m → (ps : List (List �
     → length (joined ps ++ last) < length (closingBytes c m) → slices ours c m ps last .fed .answer .number ≡ more
 fewer-go-on = shorter-goes-on
 
+-- Document 02, wish 9: 'For one device and write streams that load whole and leave B4 clear', which are the patches,
+pub all-patches : (l : Loader) → Demand2a l → Demand2e l → PatchesExactly l
+all-patches = patches-exactly
+
+-- 'two that share no cell leave the same memory in either order;' of every loader that meets clause (a). TwoPatches has a pair that shares one: there the
+-- order matters
+pub patches-apart : (l : Loader) → Demand2a l → Apart l
+patches-apart = apart
+
+-- 'S then T leaves the memory of one stream with S's windows, then T's, if 255 suffice.'
+pub patches-stacked : (l : Loader) → Demand2a l → Stacked l
+patches-stacked = stacked
+
+-- and that stream is what the writer gives from the two listings put together
+pub patches-written-once : (l : Loader) → Demand2a l → Demand2b l → Demand2c l → WrittenAsOne l
+patches-written-once = written-as-one
+
+-- so it is of ours
+pub our-patches : PatchesExactly ours × Apart ours × Stacked ours × WrittenAsOne ours
+our-patches = (
+  all-patches ours (demand2 .a) (demand2 .e),
+  patches-apart ours (demand2 .a),
+  patches-stacked ours (demand2 .a),
+  patches-written-once ours (demand2 .a) (demand2 .b) (demand2 .c),
+)
+
 -- The twelve cases of the paper, one table
 pub twelve-cases : All 1 table
 twelve-cases = twelve
@@ -126,6 +159,13 @@ pub record ShutOut : Type 0 where
   pub older-at-end : (f : Chain → List ℕ → List ℕ) → OlderAtEnd f → Shortest (offering f) → ⊥
   pub older-at-control : (f : Chain → List ℕ → List ℕ) → OlderAtControl f → Shortest (offering f) → ⊥
   pub offers-nothing : Shortest (offering (λ c m. [])) → ⊥
+  -- document 02, wish 9: the order of two patches struck out of the law; a memory emptied at each stream; B4 held against the one stream; data picked up
+  -- one byte late
+  pub any-order : (l : Loader) → Demand2 l → AnyOrder l → ⊥
+  pub wiping-apart : Apart wiping → ⊥
+  pub wiping-stacked : Stacked wiping → ⊥
+  pub own-bar-stacked : Stacked barring → ⊥
+  pub offsets-written : WrittenAsOne offsetsFromFirst → ⊥
   -- the hunt: the bits before the preamble for those left; positions from 1; a position with a refusal
   pub left-before : SaysWhere leftBefore → ⊥
   pub from-one : SaysWhere fromOne → ⊥
@@ -151,6 +191,11 @@ shut-out =
       older-at-end = older-end-out;
       older-at-control = older-control-out;
       offers-nothing = nothing-out;
+      any-order = λ l d. any-order-out l (d .a);
+      wiping-apart = wiping-apart-out;
+      wiping-stacked = wiping-stacked-out;
+      own-bar-stacked = barring-stacked-out;
+      offsets-written = offsets-written-out;
       left-before = left-before-out;
       from-one = from-one-out;
       told-refused = told-refused-out;

@@ -4,4 +4,5 @@ pub mod Eager
 pub mod Readings
 pub mod RefusedChecks
 pub mod HuntFigures
+pub mod PatchOrders
 pub mod OlderClosing

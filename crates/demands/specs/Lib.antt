@@ -9,6 +9,8 @@ pub mod Demand2
 pub mod Demand3
 pub mod Shortest
 pub mod Files
+pub mod Patches
+pub mod WrittenOnce
 pub mod Second
 pub mod Ours
 pub mod Wrong

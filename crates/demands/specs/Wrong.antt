@@ -4,10 +4,10 @@ use mathlib.Core.Bool.{_&&_, _||_, not}
 use mathlib.Core.Path.{_≡_}
 use mathlib.Core.List.{List, [], _∷_}
 use lib.Dec.{eqb, ltb}
-use lib.ListN.{length, getD}
+use lib.ListN.{length, getD, replicate}
 use Rattle.chain.specs.declared.Chain.{Chain}
 use Rattle.chain.specs.declared.Place.{Place}
-use Rattle.chain.specs.Paper.{postamble, no-windows, at·control, at·address, at·count, at·null, at·end-low, at·data, at·check, writing, checking, two-preambles, done, barred, no-check, too-short, more, B4}
+use Rattle.chain.specs.Paper.{postamble, no-windows, at·preamble, at·control, at·address, at·count, at·null, at·end-low, at·data, at·check, writing, checking, two-preambles, done, barred, no-check, too-short, more, B4}
 use Rattle.chain.specs.Rules.{pick, _gives_, firstOf}
 use Rattle.chain.specs.Output.{onDone, writtenOf, outputOf}
 use Rattle.chain.specs.Set.{with·check, with·awaited, with·left, with·end, with·place}
@@ -109,6 +109,12 @@ unloading = bent (λ c m b t. pick (writes c) t (loaded t (c .registers)))
 -- a check that loads its control byte before the test for 7
 abbrev pub loadingFirst : Loader
 loadingFirst = bent (λ c m b t. pick (eqb (t .number) no-check) (loaded t (registersOf c b)) t)
+
+-- ---- document 02, wish 9: patches that do not stack
+
+-- a write that begins with an empty memory, so that a patch takes what earlier ones stored with it
+abbrev pub wiping : Loader
+wiping = bent (λ c m b t. pick (awaits c at·preamble && writes c) (run (t .chain) (replicate (length m) 0) (t .number)) t)
 
 -- ---- other calls
 
