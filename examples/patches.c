@@ -45,7 +45,7 @@ enum { MANY = 128, LONG = 7 + 6 * MANY, ROOM = 2 * LONG, MARK = 0xaa };
 /* large, so not on the stack */
 static struct array { at6000_chain chain; uint8_t mem[CELLS]; } st, ts, joined;
 static join_tables tables;
-static uint8_t data[ROOM], out[ROOM];
+static uint8_t data[ROOM], out[ROOM], hunted[ROOM];
 
 static void holds(int fact, const char *what)
 {
@@ -131,20 +131,32 @@ static void both_orders(patch one, patch other)
     picture("T then S", &ts);
 }
 
+/* What was written, as the array is fed with it: in modes 3 and 4 its hunted bytes. */
+static patch written(uint8_t mode, size_t length)
+{
+    patch p = {mode, out, length};
+
+    if (mode == 3 || mode == 4) {
+        p.bytes = hunted;
+        p.length = at6000_hunt(out, length, hunted, sizeof hunted).length;
+    }
+    return p;
+}
+
 /* Joins, with as much room as is always enough; what is written loads, and leaves what the two leave one after the other. */
-static at6000_written join(patch one, patch other)
+static at6000_written join(patch one, patch other, uint8_t mode)
 {
     const size_t room = one.length + other.length;
 
     memset(out, MARK, ROOM);
-    const at6000_written w = join_patches(KIND, one, other, MODE, &tables, data, room, out, room);
+    const at6000_written w = join_patches(KIND, one, other, mode, &tables, data, room, out, room);
 
     for (size_t i = w.length; i < ROOM; i++)
         holds(out[i] == MARK, "only the bytes that are answered are written");
     if (w.number == AT6000_DONE) {
         stack(&st, one, other);
         park(&joined);
-        holds(load(&joined, (patch){MODE, out, w.length}) == AT6000_DONE, "the joined stream loads whole");
+        holds(load(&joined, written(mode, w.length)) == AT6000_DONE, "the joined stream loads whole");
         holds(memcmp(joined.mem, st.mem, CELLS) == 0, "it leaves the memory that S then T leave");
         holds(joined.chain.registers[0] == st.chain.registers[0], "it leaves the register that S then T leave");
     }
@@ -154,7 +166,7 @@ static at6000_written join(patch one, patch other)
 /* The joined stream with its listing: the head, a line for each window, the postamble. */
 static void print_joined(size_t length)
 {
-    const int n = list((patch){MODE, out, length});
+    const int n = list(written(MODE, length));
     int i = 0;
 
     printf("  start  end\n             ");
@@ -184,7 +196,7 @@ static patch many(size_t n, uint8_t *room, uint8_t value)
 
 static void refuses(const char *what, patch one, patch other, uint8_t number)
 {
-    const at6000_written w = join(one, other);
+    const at6000_written w = join(one, other, MODE);
 
     holds(w.number == number && w.length == 0, what);
     printf("  %s: number %d, nothing written\n", what, w.number);
@@ -202,16 +214,19 @@ int main(void)
     both_orders(s, t);
     holds(memcmp(st.mem, ts.mem, CELLS) != 0, "the order matters");
     puts("  the order matters\n\nthese two joined: S's windows, then T's");
-    w = join(s, t);
+    w = join(s, t, MODE);
     printf("  number %d, %u bytes\n", w.number, (unsigned)w.length);
     holds(w.number == AT6000_DONE, "they can be joined");
     print_joined(w.length);
     picture("joined  ", &joined);
     printf("  memory as S then T, and register too: %02X\n", joined.chain.registers[0]);
+    w = join(s, t, 4);
+    printf("  written for mode 4 and hunted: number %d, %u bytes, as S then T\n", w.number, (unsigned)w.length);
+    holds(w.number == AT6000_DONE, "they can be joined for a serial board");
 
     puts("\nwhat is refused");
     refuses("128 windows and 128", many(MANY, long_s, 0x50), many(MANY, long_t, 0x70), AT6000_BAD_TABLES);
-    w = join(many(MANY, long_s, 0x50), many(MANY - 1, long_t, 0x70));
+    w = join(many(MANY, long_s, 0x50), many(MANY - 1, long_t, 0x70), MODE);
     holds(w.number == AT6000_DONE, "255 windows can be joined");
     printf("  but 128 and 127 are joined: number %d, %u bytes\n", w.number, (unsigned)w.length);
     refuses("S cut before its postamble", (patch){s.mode, s.bytes, s.length - 1}, t, AT6000_MORE);
@@ -223,5 +238,8 @@ int main(void)
     holds(load(&st, locks) == AT6000_DONE && load(&st, t) == AT6000_BARRED, "bit 4 bars what comes after its own stream");
     puts("  S sets bit 4: S loads with number 0, T after it with 6");
     refuses("S sets bit 4, joined", locks, t, AT6000_BARRED);
+    w = join(s, locks, MODE);
+    holds(w.number == AT6000_DONE, "the last one may set bit 4");
+    printf("  but T may: number %d, %u bytes, as S then T\n", w.number, (unsigned)w.length);
     return 0;
 }

@@ -136,7 +136,7 @@ at6000_written at6000_write(uint8_t kind, uint8_t mode, uint8_t control, const u
                             uint8_t *out, size_t out_len);
 
 /* Lists the windows of a stream (in modes 3 and 4 of the hunted bytes) for one freshly reset device: starts, ends, and offsets
- * of the data from the preamble that precedes the control byte, which in mode 6 is the second byte of s. 255 entries have room
+ * of the data from the preamble that precedes the control byte: the first byte of s, in mode 6 the second. 255 entries have room
  * for every stream. Gives 1 (unknown kind), 2, the stream's own 5, 8 to 12 or 16, then 15, else 0. On 0 the first `windows`
  * entries of each table are written; else the tables are as they were, and all but the number and the bytes taken is 0. */
 at6000_listed at6000_list(uint8_t kind, uint8_t mode, const uint8_t *s, size_t s_len, uint16_t *starts, size_t starts_len,

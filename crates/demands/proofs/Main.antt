@@ -101,10 +101,13 @@ fewer-go-on = shorter-goes-on
 pub all-patches : (l : Loader) → Demand2a l → Demand2e l → PatchesExactly l
 all-patches = patches-exactly
 
--- 'two that share no cell leave the same memory in either order;' of every loader that meets clause (a). TwoPatches has a pair that shares one: there the
--- order matters
+-- 'two that share no cell leave the same memory in either order;' of every loader that meets clause (a)
 pub patches-apart : (l : Loader) → Demand2a l → Apart l
 patches-apart = apart
+
+-- 'share no cell' is needed: TwoPatches has a pair that shares one, and there the order matters
+pub no-cell-needed : (l : Loader) → Demand2a l → AnyOrder l → ⊥
+no-cell-needed = any-order-out
 
 -- 'S then T leaves the memory of one stream with S's windows, then T's, if 255 suffice.'
 pub patches-stacked : (l : Loader) → Demand2a l → Stacked l
@@ -159,9 +162,7 @@ pub record ShutOut : Type 0 where
   pub older-at-end : (f : Chain → List ℕ → List ℕ) → OlderAtEnd f → Shortest (offering f) → ⊥
   pub older-at-control : (f : Chain → List ℕ → List ℕ) → OlderAtControl f → Shortest (offering f) → ⊥
   pub offers-nothing : Shortest (offering (λ c m. [])) → ⊥
-  -- document 02, wish 9: the order of two patches struck out of the law; a memory emptied at each stream; B4 held against the one stream; data picked up
-  -- one byte late
-  pub any-order : (l : Loader) → Demand2 l → AnyOrder l → ⊥
+  -- document 02, wish 9: a memory emptied at each stream; B4 held against the one stream; data picked up one byte late
   pub wiping-apart : Apart wiping → ⊥
   pub wiping-stacked : Stacked wiping → ⊥
   pub own-bar-stacked : Stacked barring → ⊥
@@ -191,7 +192,6 @@ shut-out =
       older-at-end = older-end-out;
       older-at-control = older-control-out;
       offers-nothing = nothing-out;
-      any-order = λ l d. any-order-out l (d .a);
       wiping-apart = wiping-apart-out;
       wiping-stacked = wiping-stacked-out;
       own-bar-stacked = barring-stacked-out;

@@ -112,7 +112,7 @@ loadingFirst = bent (λ c m b t. pick (eqb (t .number) no-check) (loaded t (regi
 
 -- ---- document 02, wish 9: patches that do not stack
 
--- a write that begins with an empty memory, so that a patch takes what earlier ones stored with it
+-- a write that begins with an empty memory, so that what earlier patches stored is lost
 abbrev pub wiping : Loader
 wiping = bent (λ c m b t. pick (awaits c at·preamble && writes c) (run (t .chain) (replicate (length m) 0) (t .number)) t)
 

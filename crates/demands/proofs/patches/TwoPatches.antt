@@ -1,5 +1,5 @@
--- Patches for the teaching array, parked at EE: the premises of the laws are met, and what the laws say is seen by computation. Where a cell is shared the
--- order matters to every loader that meets clause (a) of the second demand; where B4 is left set the second stream is barred. Assumes nothing.
+-- Patches for the teaching array, parked at EE: the premises of the laws are met, and what the laws say is seen by computation. For a pair that shares a
+-- cell the order matters to every loader that meets clause (a) of the second demand; where B4 is left set the second stream is barred. Assumes nothing.
 use Prim.Native.Nat.{ℕ}
 use mathlib.Core.Logic.{⊎-elim}
 use mathlib.Core.Path.{_≡_, refl, ap, sym, _∙_}
@@ -106,7 +106,7 @@ patchT = record { of-mode = mode-six; bytes = bytes-below streamT refl; reading 
 abbrev pub patchV : Patch teaching 6 streamV
 patchV = record { of-mode = mode-six; bytes = bytes-below streamV refl; reading = record { first = sectionV; others = []; fits = fits-V; bytes = refl }; clear = refl }
 
--- ---- sent in one slice; and cut in two, with a byte after the last
+-- ---- sent in one slice; and cut, S with a byte after its last, T with an empty slice first
 
 abbrev pub once : (mode b : ℕ) (bs : List ℕ) → Sending mode (b ∷ bs)
 once mode b bs = record { before = []; byte = b; last = bs; rest = []; all = refl }
@@ -236,7 +236,15 @@ written-holds =
     written-as-one ours second-a second-b second-c teaching parked 1 6 4 streamS streamV sectionW device patchS patchV (omega arith) refl mode-four
     (bytes-below (bytesOf (streamSent teaching 4 sectionW [])) refl) fileS fileV (replicate 36 0)
 
-pub written-bytes : offered (writtenOnce ours fileS fileV 4 sectionW (replicate 36 0))
-    ≡ 0x00 ∷ 0xb2 ∷ 0x0f ∷ 0 ∷ 0 ∷ 0 ∷ 0xfc ∷ 0 ∷ 0 ∷ 9 ∷ 0 ∷ 11 ∷ 0x11 ∷ 0x22 ∷ 0x33 ∷ 0 ∷ 0 ∷ 10 ∷ 0 ∷ 10 ∷ 0x44 ∷ 0 ∷ 0 ∷ 11 ∷ 0 ∷ 12 ∷ 0x88 ∷ 0x99 ∷ 0x4d ∷ []
+-- what the machine is given of it, after the hunt
+abbrev pub streamW : List ℕ
+streamW = 0xb2 ∷ 0x0f ∷ 0 ∷ 0 ∷ 0 ∷ 0xfc ∷ 0 ∷ 0 ∷ 9 ∷ 0 ∷ 11 ∷ 0x11 ∷ 0x22 ∷ 0x33 ∷ 0 ∷ 0 ∷ 10 ∷ 0 ∷ 10 ∷ 0x44 ∷ 0 ∷ 0 ∷ 11 ∷ 0 ∷ 12 ∷ 0x88 ∷ 0x99 ∷ 0x4d ∷ []
+
+pub written-bytes : offered (writtenOnce ours fileS fileV 4 sectionW (replicate 36 0)) ≡ 0x00 ∷ streamW
 unfolding sizeOf baseOf leadIn windowsFrom streamOf windowsNumber sumOf writeNumber-of writeNumber preambleAt headStop checkStop streamStop listStop listedOf listingOf windowStop readWindowOf windowsStop windowsOf
 written-bytes = refl
+
+-- it leaves what S and then V leave, and not what V and then S leave
+pub as-one-over : leftBy ours teaching parked (once 4 0xb2 (drop 1 streamW)) .memory ≡ sets parked 9 (0x11 ∷ 0x44 ∷ 0x88 ∷ 0x99 ∷ [])
+unfolding sizeOf baseOf knownOf badChain unusedZero wellFormed illFormed stateNumber feedNumber numberOf passedOf advanceOf addressOf memoryOf registersOf missedOf stepOf runOf startNumber startOf fedOf sliceOf sliceMemory
+as-one-over = refl
