@@ -24,7 +24,7 @@ alone c s [] n f = refl
 alone c s (t ∷ []) n f = absurd (omega (arith, f .3 .0))
 alone c s (t ∷ (u ∷ us)) n f = absurd (omega (arith, f .3 .0))
 
-first-fits : (c : Chain) (s : Section) (ss : List Section) → SectionsFit c 0 s ss → SectionFits (sizeAt c 0) s
+pub first-fits : (c : Chain) (s : Section) (ss : List Section) → SectionsFit c 0 s ss → SectionFits (sizeAt c 0) s
 first-fits c s [] f = f .1
 first-fits c s (t ∷ ts) f = f .1
 

@@ -24,12 +24,12 @@ use Rattle.chain.proofs.WellFormed.{m-not-ill}
 use Rattle.chain.proofs.Sound.{Usable, state-usable}
 use Rattle.grammar.specs.Sent.{Sent, memory, registers, lastTo, frame, bytesOf}
 use Rattle.grammar.specs.Stream.{Section, windowsSent, sectionsSent, streamSent}
-use Rattle.grammar.specs.Fits.{SectionFits, SectionsFit, Clear, Fitting, Reading}
+use Rattle.grammar.specs.Fits.{SectionFits, Clear, Fitting, Reading}
 use Rattle.grammar.proofs.StreamShort.{bytes-long}
 use Rattle.demands.specs.Loader.{Loader, Idle, Mode}
 use Rattle.demands.specs.Demand2.{Seen, ran, Loads, Demand2a}
 use Rattle.demands.specs.Patches.{Device, Sending, leftBy, LoadsWhole}
-use Rattle.demands.proofs.files.ReadAgain.{alone}
+use Rattle.demands.proofs.files.ReadAgain.{alone, first-fits}
 use Rattle.demands.proofs.files.WrittenLoads.{any-chain}
 use Rattle.demands.proofs.patches.WindowCells.{last-small, stream-cells, stream-register}
 
@@ -145,7 +145,7 @@ module _ (c : Chain) (one : c .count ≡ 1) (mode : ℕ) (s : List ℕ) (r : Rea
   alone-read = alone c (r .first) (r .others) one (r .fits)
 
   pub read-fits : SectionFits (sizeAt c 0) (r .first)
-  read-fits = subst (λ (ss : List Section). SectionsFit c 0 (r .first) ss) alone-read (r .fits) .1
+  read-fits = first-fits c (r .first) (r .others) (r .fits)
 
   pub read-stream : (d : Chain) → bytesOf (streamSent d mode (r .first) []) ≡ s
   read-stream d =

@@ -98,25 +98,20 @@ in-order base vs ws i old =
 
 -- ---- a cell in no window
 
-data-below : (a : ℕ) (bs : List ℕ) (i old : ℕ) → i < a → lastTo memory (dataSent a bs) i old ≡ old
-data-below a [] i old h = refl
-data-below a (b ∷ bs) i old h =
-    ap (λ (k : Bool). lastTo memory (dataSent (suc a) bs) i (pick k b old)) (ne-eqb i a (λ e. omega arith)) ∙ data-below (suc a) bs i old (omega arith)
-
-data-above : (a : ℕ) (bs : List ℕ) (i old : ℕ) → a + length bs ≤ i → lastTo memory (dataSent a bs) i old ≡ old
-data-above a [] i old h = refl
-data-above a (b ∷ bs) i old h =
-    ap (λ (k : Bool). lastTo memory (dataSent (suc a) bs) i (pick k b old)) (ne-eqb i a (λ e. omega arith)) ∙ data-above (suc a) bs i old (omega arith)
+data-keeps : (a : ℕ) (bs : List ℕ) (i old : ℕ) → (a ≤ i → i < a + length bs → ⊥) → lastTo memory (dataSent a bs) i old ≡ old
+data-keeps a [] i old h = refl
+data-keeps a (b ∷ bs) i old h =
+    ap (λ (k : Bool). lastTo memory (dataSent (suc a) bs) i (pick k b old)) (ne-eqb i a (λ e. h (omega arith) (omega arith)))
+    ∙ data-keeps (suc a) bs i old (λ p q. h (omega arith) (omega arith))
 
 -- a window has a cell, or leaves it as it was
-window-keeps : (size : ℕ) (w : Window) (i : ℕ) → Fits size w
-    → In i w ⊎ ((old : ℕ) → lastTo memory (dataSent (0 + w .start) (w .bytes)) i old ≡ old)
+window-keeps : (size : ℕ) (w : Window) (i : ℕ) → Fits size w → In i w ⊎ ((old : ℕ) → lastTo memory (dataSent (0 + w .start) (w .bytes)) i old ≡ old)
 window-keeps size w i f =
     by-test (ltb i (w .start))
-    (λ e. inr (λ old. data-below (0 + w .start) (w .bytes) i old (omega (arith, ltb-true i (w .start) e))))
+    (λ e. inr (λ old. data-keeps (0 + w .start) (w .bytes) i old (λ p q. omega (arith, ltb-true i (w .start) e))))
     (λ e.
     by-test (ltb (w .end) i)
-    (λ g. inr (λ old. data-above (0 + w .start) (w .bytes) i old (omega (arith, f .order, f .full, ltb-true (w .end) i g))))
+    (λ g. inr (λ old. data-keeps (0 + w .start) (w .bytes) i old (λ p q. omega (arith, f .order, f .full, ltb-true (w .end) i g))))
     (λ g. inl (omega (arith, ltb-false i (w .start) e), omega (arith, ltb-false (w .end) i g))))
 
 -- so do windows
