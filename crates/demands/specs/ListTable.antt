@@ -35,11 +35,10 @@ pub record ListTaken (kind mode : ℕ) (s : List ℕ) (t : ℕ) : Type 0 where
 abbrev pub Shorter : ℕ → List ℕ → List ℕ → List ℕ → Type 0
 Shorter n starts ends offsets = ((length starts < n) ⊎ (length ends < n)) ⊎ (length offsets < n)
 
-abbrev pub listTable : ℕ → ℕ → List ℕ → List ℕ → List ℕ → List ℕ → List Claim
-listTable kind mode s starts ends offsets =
-    (bad-chain when (Known kind → ⊥))
-    ∷ (bad-mode when NoMode mode)
-    ∷ (no-preamble when ownNumber kind mode s ≡ no-preamble)
+-- the stream's own number, and the rows after it
+abbrev pub ownTable : ℕ → ℕ → List ℕ → List Claim → List Claim
+ownTable kind mode s rows =
+    (no-preamble when ownNumber kind mode s ≡ no-preamble)
     ∷ (barred when ownNumber kind mode s ≡ barred)
     ∷ (no-check when ownNumber kind mode s ≡ no-check)
     ∷ (bad-check-byte when ownNumber kind mode s ≡ bad-check-byte)
@@ -48,5 +47,10 @@ listTable kind mode s starts ends offsets =
     ∷ (bad-start when ownNumber kind mode s ≡ bad-start)
     ∷ (bad-end when ownNumber kind mode s ≡ bad-end)
     ∷ (more when ownNumber kind mode s ≡ more)
-    ∷ (too-short when Shorter (countAt s (preambleAt mode)) starts ends offsets)
-    ∷ []
+    ∷ rows
+
+abbrev pub listTable : ℕ → ℕ → List ℕ → List ℕ → List ℕ → List ℕ → List Claim
+listTable kind mode s starts ends offsets =
+    (bad-chain when (Known kind → ⊥))
+    ∷ (bad-mode when NoMode mode)
+    ∷ ownTable kind mode s ((too-short when Shorter (countAt s (preambleAt mode)) starts ends offsets) ∷ [])

@@ -3,6 +3,7 @@ pub mod EachSent
 pub mod OtherRegisters
 pub mod Walk
 pub mod LastByte
+pub mod WindowCells
 pub mod OneReading
 pub mod StreamShort
 pub mod Counts

@@ -18,7 +18,7 @@ use Rattle.demands.proofs.loads.AcceptedFits.{used-of, within}
 use Rattle.demands.proofs.files.ReadAgain.{relisted}
 
 -- the first device of an idle chain is of a known kind
-first-known : (c : Chain) (m : List ℕ) → Idle c m → sizeAt c 0 ≡ 0 → ⊥
+pub first-known : (c : Chain) (m : List ℕ) → Idle c m → sizeAt c 0 ≡ 0 → ⊥
 first-known c m i =
     let first = getD (c .kinds) 0 0 in
     eqb-false (sizeOf first) 0 (m-known first .said (state-usable c (length m) (i .sound) .fits .known 0 (count-sound c (length m) (i .sound) .0)))

@@ -31,13 +31,13 @@ use Rattle.grammar.proofs.SectionBytes.{windowBytes, windowsBytes, sectionBytes
 -- ---- one window
 
 -- a window that stands in s from `at` on
-record Stands (s : List ℕ) (at : ℕ) (w : Window) : Type 0 where
+pub record Stands (s : List ℕ) (at : ℕ) (w : Window) : Type 0 where
   pub start : startAt s at ≡ w .start
   pub end : endAt s at ≡ w .end
   pub next : nextAt s at ≡ at + length (windowBytes w)
   pub data-there : take (w .end - w .start + 1) (drop (at + 5) s) ≡ w .bytes
 
-stands : (size : ℕ) (pre : List ℕ) (w : Window) (post : List ℕ) → Fits size w → Stands (pre ++ (windowBytes w ++ post)) (length pre) w
+pub stands : (size : ℕ) (pre : List ℕ) (w : Window) (post : List ℕ) → Fits size w → Stands (pre ++ (windowBytes w ++ post)) (length pre) w
 stands size pre w post f =
     let s : List ℕ = pre ++ (windowBytes w ++ post) in
     let a : startAt s (length pre) ≡ w .start =
@@ -66,7 +66,7 @@ module _ (size : ℕ) (s : List ℕ) (w : Window) (at next n : ℕ) (f : Fits si
   unfolding windowsStop
   stop-more = rw passed (ap (windowsStop size s n) e)
 
-  list-more : windowsOf size s (suc n) at
+  pub list-more : windowsOf size s (suc n) at
       ≡ record { number = done; start = startAt s at; end = endAt s at; first = at + 5; next = nextAt s at } ∷ windowsOf size s n next
   unfolding windowsOf
   list-more = rw (passed, read-whole size s at passed) (ap (λ (x : ℕ). record { number = done; start = startAt s at; end = endAt s at; first = at + 5; next = nextAt s at } ∷ windowsOf size s n x) e)
@@ -74,7 +74,7 @@ module _ (size : ℕ) (s : List ℕ) (w : Window) (at next n : ℕ) (f : Fits si
 -- ---- windows one after another
 
 -- what the lister makes of windows that stand in s from `at` on: offsets count from p
-record Through (size : ℕ) (s : List ℕ) (ws : List Window) (p at : ℕ) : Type 0 where
+pub record Through (size : ℕ) (s : List ℕ) (ws : List Window) (p at : ℕ) : Type 0 where
   pub ending : windowsStop size s (length ws) at ≡ stop done (at + length (windowsBytes ws))
   pub starts-are : startsOf (windowsOf size s (length ws) at) ≡ starts ws
   pub ends-are : endsOf (windowsOf size s (length ws) at) ≡ ends ws
@@ -122,7 +122,7 @@ through size (w ∷ ws) pre post p i f =
 
 -- ---- a section, its preamble at p
 
-record Stood (size mode p : ℕ) (s : List ℕ) (x : Section) : Type 0 where
+pub record Stood (size mode p : ℕ) (s : List ℕ) (x : Section) : Type 0 where
   pub head : headStop mode s ≡ stop done (p + 6)
   pub control : getD s (p + 1) 0 ≡ x .control
   pub address0 : getD s (p + 2) 0 ≡ x .address0
@@ -177,7 +177,7 @@ module _ (size mode : ℕ) (x : Section) (rest : List ℕ) (f : SectionFits size
   unfolding headStop preambleAt
   stood-two e = let l = body-long in stood (preamble ∷ []) (rw (e, le-ltb (length (leadBytes true ++ sectionBytes x rest)) 7 (omega arith)) (simp and-false))
 
-  stood-one : eqb mode two-preambles ≡ false → Stood size mode 0 (leadBytes false ++ sectionBytes x rest) x
+  pub stood-one : eqb mode two-preambles ≡ false → Stood size mode 0 (leadBytes false ++ sectionBytes x rest) x
   unfolding headStop preambleAt
   stood-one e = let l = body-long in stood [] (rw (e, le-ltb (length (leadBytes false ++ sectionBytes x rest)) 6 (omega arith)) (simp and-false))
 
@@ -191,7 +191,7 @@ module _ (kind mode p : ℕ) (s : List ℕ) (x : Section) (t : ℕ) (pa : preamb
   check-stop control =
       rw (lt-leb (length s) (p + 6 + length (windowsBytes (x .windows))) (k .long), k .check, tk)
 
-  stream-stop : streamStop (sizeOf kind) mode s ≡ stop done t
+  pub stream-stop : streamStop (sizeOf kind) mode s ≡ stop done t
   unfolding streamStop
   stream-stop = rw (k .head, pa, k .count, k .windows .ending) (check-stop (getD s (p + 1) 0))
 
@@ -273,18 +273,18 @@ module _ (kind mode p : ℕ) (s : List ℕ) (x : Section) (t : ℕ) (pa : preamb
           cells = rw (pa, sa, ea, oa) cells-are;
         })
 
-module _ (kind mode : ℕ) (c : Chain) (x : Section) (rest : List ℕ) (f : SectionFits (sizeOf kind) x) (known : sizeOf kind ≡ 0 → ⊥) (o : Mode mode) where
-  -- the stream alone, as long as it is
-  stream-long : (k : Bool) → eqb mode two-preambles ≡ k
-      → length (bytesOf (streamSent c mode x [])) ≡ pick k 1 0 + 6 + length (windowsBytes (x .windows)) + 1
-  stream-long k e =
-      ap length (sym (append-nil (bytesOf (streamSent c mode x []))) ∙ stream-bytes c mode x [])
-      ∙ rw e (either k)
-    where
-      either : (k : Bool) → length (leadBytes k ++ sectionBytes x []) ≡ pick k 1 0 + 6 + length (windowsBytes (x .windows)) + 1
-      either true = omega (arith, length-append (windowsBytes (x .windows)) (postamble ∷ []))
-      either false = omega (arith, length-append (windowsBytes (x .windows)) (postamble ∷ []))
+-- the stream alone, as long as it is
+pub stream-long : (mode : ℕ) (c : Chain) (x : Section) (k : Bool) → eqb mode two-preambles ≡ k
+    → length (bytesOf (streamSent c mode x [])) ≡ pick k 1 0 + 6 + length (windowsBytes (x .windows)) + 1
+stream-long mode c x k e =
+    ap length (sym (append-nil (bytesOf (streamSent c mode x []))) ∙ stream-bytes c mode x [])
+    ∙ rw e (either k)
+  where
+    either : (k : Bool) → length (leadBytes k ++ sectionBytes x []) ≡ pick k 1 0 + 6 + length (windowsBytes (x .windows)) + 1
+    either true = omega (arith, length-append (windowsBytes (x .windows)) (postamble ∷ []))
+    either false = omega (arith, length-append (windowsBytes (x .windows)) (postamble ∷ []))
 
+module _ (kind mode : ℕ) (c : Chain) (x : Section) (rest : List ℕ) (f : SectionFits (sizeOf kind) x) (known : sizeOf kind ≡ 0 → ⊥) (o : Mode mode) where
   -- whatever tables of room enough are lent, and whatever follows the stream
   pub listed : (ts te to : List ℕ) → length (x .windows) ≤ length ts → length (x .windows) ≤ length te → length (x .windows) ≤ length to
       → ListsAs mode (bytesOf (streamSent c mode x []) ++ rest) (length (bytesOf (streamSent c mode x []))) x
@@ -296,8 +296,8 @@ module _ (kind mode : ℕ) (c : Chain) (x : Section) (rest : List ℕ) (f : Sect
       (λ e.
       let is : s ≡ leadBytes true ++ sectionBytes x rest = stream-bytes c mode x rest ∙ rw e in
       let k : Stood (sizeOf kind) mode 1 s x = subst (λ (l : List ℕ). Stood (sizeOf kind) mode 1 l x) (sym is) (stood-two (sizeOf kind) mode x rest f e) in
-      stood-lists kind mode 1 s x t (unfold preambleAt in rw e) k (stream-long true e) known o ts te to a b d)
+      stood-lists kind mode 1 s x t (unfold preambleAt in rw e) k (stream-long mode c x true e) known o ts te to a b d)
       (λ e.
       let is : s ≡ leadBytes false ++ sectionBytes x rest = stream-bytes c mode x rest ∙ rw e in
       let k : Stood (sizeOf kind) mode 0 s x = subst (λ (l : List ℕ). Stood (sizeOf kind) mode 0 l x) (sym is) (stood-one (sizeOf kind) mode x rest f e) in
-      stood-lists kind mode 0 s x t (unfold preambleAt in rw e) k (stream-long false e) known o ts te to a b d)
+      stood-lists kind mode 0 s x t (unfold preambleAt in rw e) k (stream-long mode c x false e) known o ts te to a b d)

@@ -47,21 +47,21 @@ module _ (kind : ℕ) (known : sizeOf kind ≢ 0) where
   abbrev eight : List ℕ
   eight = kind ∷ replicate 7 0
 
-  good-chain : badChain 1 eight (sizeOf kind) ≡ false
+  pub good-chain : badChain 1 eight (sizeOf kind) ≡ false
   unfolding badChain knownOf baseOf
   good-chain =
       let e : sizeOf kind + 0 ≡ sizeOf kind = add-zero (sizeOf kind) in
       rw (ne-eqb (sizeOf kind) 0 known, e, le-ltb most-memory (sizeOf kind) (omega (arith, size-most kind)), eq-eqb (sizeOf kind) (sizeOf kind) refl)
 
-  new-is : newOf 1 eight (sizeOf kind) .chain ≡ freshChain 1 eight
+  pub new-is : newOf 1 eight (sizeOf kind) .chain ≡ freshChain 1 eight
   unfolding newOf chainNumber
   new-is = rw good-chain
 
-  kinds-kept : firstOnly 1 eight ≡ eight
+  pub kinds-kept : firstOnly 1 eight ≡ eight
   unfolding firstOnly
   kinds-kept = refl
 
-  fresh-formed : illFormed (freshChain 1 eight) ≡ false
+  pub fresh-formed : illFormed (freshChain 1 eight) ≡ false
   unfolding illFormed unusedZero firstOnly
   fresh-formed = refl
 
@@ -94,7 +94,7 @@ first-among [] n = inl refl
 first-among ((true gives m) ∷ rules) n = inl refl
 first-among ((false gives m) ∷ rules) n = inr (first-among rules n)
 
-abbrev runNumbers : List ℕ
+abbrev pub runNumbers : List ℕ
 runNumbers = no-preamble ∷ bad-check-byte ∷ ends-here ∷ last-device ∷ barred ∷ no-check ∷ bad-start ∷ bad-end ∷ done ∷ more ∷ []
 
 byte-among : (c : Chain) (b : ℕ) → Among (numberOf c b) runNumbers
@@ -111,7 +111,7 @@ run-among (b ∷ bs) r h =
     (λ e. rw (first-off r b bs e) h)
 
 -- a stream's own number, then 15
-abbrev ownRules : ℕ → Bool → List Rule
+abbrev pub ownRules : ℕ → Bool → List Rule
 ownRules own short =
     (eqb own no-preamble gives no-preamble)
     ∷ (eqb own barred gives barred)
@@ -125,7 +125,7 @@ ownRules own short =
     ∷ (short gives too-short)
     ∷ []
 
-spread : (own : ℕ) (short : Bool) → Among own runNumbers → pick (not (eqb own done)) own (pick short too-short own) ≡ firstOf (ownRules own short) done
+pub spread : (own : ℕ) (short : Bool) → Among own runNumbers → pick (not (eqb own done)) own (pick short too-short own) ≡ firstOf (ownRules own short) done
 spread own short (inl e) = rw e refl
 spread own short (inr (inl e)) = rw e refl
 spread own short (inr (inr (inl e))) = rw e refl
@@ -165,11 +165,11 @@ module _ (kind mode : ℕ) (s : List ℕ) (small : Bytes s) where
         ap (λ (c : Chain). sliceNumber c memory s) (start-is kind known mode inside)
         ∙ slice-number (started kind known mode inside) memory s (opens kind known mode inside memory (length-replicate (sizeOf kind) 0))
 
-    own-stream : streamStop (sizeOf kind) mode s .number ≡ ownNumber kind mode s
+    pub own-stream : streamStop (sizeOf kind) mode s .number ≡ ownNumber kind mode s
     own-stream =
         ap (λ (e : Stop). e .number) (stream-as-machine kind (replicate 7 0) mode memory s (bytes-at s small)) ∙ sym own-run
 
-    own-among : Among (ownNumber kind mode s) runNumbers
+    pub own-among : Among (ownNumber kind mode s) runNumbers
     own-among =
         rw own-run (run-among s (run (started kind known mode inside) memory more) (inr (inr (inr (inr (inr (inr (inr (inr (inr (inl refl)))))))))))
 

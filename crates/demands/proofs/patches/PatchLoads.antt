@@ -26,12 +26,12 @@ use Rattle.grammar.specs.Sent.{Sent, memory, registers, lastTo, frame, bytesOf}
 use Rattle.grammar.specs.Stream.{Section, windowsSent, sectionsSent, streamSent}
 use Rattle.grammar.specs.Fits.{SectionFits, Clear, Fitting, Reading}
 use Rattle.grammar.proofs.StreamShort.{bytes-long}
+use Rattle.grammar.proofs.WindowCells.{last-small, stream-cells, stream-register}
 use Rattle.demands.specs.Loader.{Loader, Idle, Mode}
 use Rattle.demands.specs.Demand2.{Seen, ran, Loads, Demand2a}
 use Rattle.demands.specs.Patches.{Device, Sending, leftBy, LoadsWhole}
 use Rattle.demands.proofs.files.ReadAgain.{alone, first-fits}
 use Rattle.demands.proofs.files.WrittenLoads.{any-chain}
-use Rattle.demands.proofs.patches.WindowCells.{last-small, stream-cells, stream-register}
 
 -- a state that no number refuses, with no run open
 closed-taken : (c : Chain) (len : ℕ) → Usable c len → c .place .running ≡ closed → stateNumber c len ≡ done
@@ -52,6 +52,9 @@ pub record SentWhole (l : Loader) (c : Chain) (m : List ℕ) {mode : ℕ} {s : L
   pub cells-many : length (leftBy l c m x .memory) ≡ length m
   pub kinds : leftBy l c m x .fed .chain .kinds ≡ c .kinds
   pub register : getD (leftBy l c m x .fed .chain .registers) 0 0 ≡ u .control
+  pub registers : (i : ℕ) → i < length (c .registers)
+      → getD (leftBy l c m x .fed .chain .registers) i 0 ≡ pick (eqb i 0) (u .control) (getD (c .registers) i 0)
+  pub registers-many : length (leftBy l c m x .fed .chain .registers) ≡ length (c .registers)
   pub device : B4 (u .control) ≡ false → Device (leftBy l c m x .fed .chain) (leftBy l c m x .memory)
 
 module _ (l : Loader) (meets : Demand2a l) (c : Chain) (m : List ℕ) (mode : ℕ) (u : Section) (d : Device c m) (o : Mode mode)
@@ -135,6 +138,8 @@ module _ (l : Loader) (meets : Demand2a l) (c : Chain) (m : List ℕ) (mode : �
           cells-many = seen .cells-many;
           kinds = seen .kinds;
           register = register-left 0 (omega (arith, d .idle .registers));
+          registers = register-left;
+          registers-many = seen .regs-many;
           device = λ b. record { one = seen .count ∙ d .one; idle = idle-again; clear = ap B4 (register-left 0 (omega (arith, d .idle .registers))) ∙ b };
         }
 

@@ -16,12 +16,13 @@ use Rattle.grammar.specs.Stream.{Window, Section, windowsSent, streamSent}
 use Rattle.grammar.specs.Fits.{AllFit, SectionFits, Reading}
 use Rattle.grammar.specs.Tables.{nulled}
 use Rattle.grammar.proofs.FitsAccepted.{first-lets}
+use Rattle.grammar.proofs.WindowCells.{null-bytes, in-order}
 use Rattle.writer.specs.Write.{most-windows}
 use Rattle.demands.specs.Loader.{Loader, Idle, Mode}
 use Rattle.demands.specs.Demand2.{Demand2a, Demand2e}
 use Rattle.demands.specs.Demand3.{load}
 use Rattle.demands.specs.Patches.{Device, Patch, windowsIn, WholeClear, PatchesExactly, Sending, leftBy, leftByBoth, BothLoad, NoneShared, EitherOrder, Apart, AsOne, Stacked}
-use Rattle.demands.proofs.patches.WindowCells.{null-bytes, in-order, swapped}
+use Rattle.demands.proofs.patches.WindowCells.{swapped}
 use Rattle.demands.proofs.patches.PatchLoads.{sent-whole, read-fits, read-clear, clear-read, read-sent, FileTaken, file-taken}
 
 -- ---- the windows of both fit
@@ -65,7 +66,7 @@ module _ (size : ℕ) (u : Section) (vs ws : List Window) (f : AllFit size vs) (
 -- ---- two patches in turn
 
 -- two memories of n cells that agree cell by cell
-same-cells : (n : ℕ) (a b : List ℕ) → length a ≡ n → length b ≡ n → ((i : ℕ) → i < n → getD a i 0 ≡ getD b i 0) → a ≡ b
+pub same-cells : (n : ℕ) (a b : List ℕ) → length a ≡ n → length b ≡ n → ((i : ℕ) → i < n → getD a i 0 ≡ getD b i 0) → a ≡ b
 same-cells n a b p q h = ext-getD 0 a b (p ∙ sym q) (λ i g. h i (omega (arith, g, p)))
 
 -- what they leave, vs being the windows of the first and ws those of the second

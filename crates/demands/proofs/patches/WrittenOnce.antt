@@ -77,7 +77,7 @@ section-parts : (s : Section) → Bytes (sectionBytes s []) → Small s
 section-parts s h =
     (h .0, (h .1 .0, (h .1 .1 .0, (h .1 .1 .1 .0, cells-small (s .windows) (bytes-front (windowsBytes (s .windows)) (postamble ∷ []) (h .1 .1 .1 .1 .1))))))
 
-stream-parts : (c : Chain) (mode : ℕ) (s : Section) → Bytes (bytesOf (streamSent c mode s [])) → Small s
+pub stream-parts : (c : Chain) (mode : ℕ) (s : Section) → Bytes (bytesOf (streamSent c mode s [])) → Small s
 stream-parts c mode s u =
     section-parts s
     (bytes-rest (leadBytes (eqb mode two-preambles)) (sectionBytes s [])
