@@ -40,6 +40,7 @@ extern "C" {
         kind: u8, mode: u8, control: u8, address: *const u8, starts: *const u16, starts_n: usize, ends: *const u16, ends_n: usize,
         data: *const u8, data_n: usize, out: *mut u8, out_n: usize,
     ) -> usize;
+    fn raced_tidy(kind: u8, s: *const u8, s_n: usize, out: *mut u8, out_n: usize) -> usize;
     fn raced_list(
         kind: u8, mode: u8, s: *const u8, s_n: usize, starts: *mut u16, starts_n: usize, ends: *mut u16, ends_n: usize,
         offsets: *mut u32, offsets_n: usize,
@@ -103,6 +104,10 @@ pub fn write(kind: u8, mode: u8, starts: &[u16], ends: &[u16], data: &[u8], out:
             out.len(),
         )
     }
+}
+
+pub fn tidy(kind: u8, s: &[u8], out: &mut [u8]) -> usize {
+    unsafe { raced_tidy(kind, s.as_ptr(), s.len(), out.as_mut_ptr(), out.len()) }
 }
 
 pub fn list(kind: u8, mode: u8, s: &[u8], starts: &mut [u16], ends: &mut [u16], offsets: &mut [u32]) -> u32 {

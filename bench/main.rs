@@ -4,6 +4,7 @@ mod archive;
 mod files;
 mod loader;
 mod race;
+mod tidy;
 use loader::{Answer, POSTAMBLE, PREAMBLE};
 use race::{race, runner, Runner};
 use std::hint::black_box;
@@ -216,6 +217,43 @@ impl Bench {
         );
     }
 
+    /// A stream for kind 10 with windows of one length from these cells on, tidied.
+    fn tidy(&self, job: &str, starts: &[u16], length: usize) {
+        let ends: Vec<u16> = starts.iter().map(|s| s + length as u16 - 1).collect();
+        let mut stream = Vec::new();
+        section(&mut stream, starts, &ends, &noise(starts.len() * length, 7));
+        stream.push(POSTAMBLE);
+        let s = &stream[..];
+        let mut tidier = tidy::Tidier::new();
+        let (mut o1, mut o2) = (vec![0; s.len()], vec![0; s.len()]);
+        let n = archive::tidy(10, s, &mut o1);
+        assert_eq!(tidier.tidy(10, s, &mut o2), (0, n));
+        assert!(o1 == o2 && n > length);
+        let (from, mut to) = (o1[..n].to_vec(), vec![0; n]);
+        self.row(
+            job,
+            vec![
+                runner("archive", || assert_eq!(archive::tidy(10, black_box(s), black_box(&mut o1)), n)),
+                runner("Rust", || assert_eq!(tidier.tidy(10, black_box(s), black_box(&mut o2)), (0, n))),
+                runner("memcpy", || black_box(&mut to[..]).copy_from_slice(black_box(&from))),
+            ],
+        );
+    }
+
+    /// Windows of 40, each half over the last, apart, both also descending, and anywhere; then one over the whole device.
+    fn tidies(&self) {
+        let over: Vec<u16> = (0..255).map(|i| i * 20).collect();
+        let apart = windows(255, 40).0;
+        let anywhere: Vec<u16> = noise(510, 11).chunks(2).map(|two| u16::from_le_bytes([two[0], two[1]]) % (BIG as u16 - 39)).collect();
+        let down = |starts: &[u16]| starts.iter().rev().copied().collect::<Vec<u16>>();
+        self.tidy("tidy, 255 of 40 half over", &over, 40);
+        self.tidy("tidy, 255 half over, descending", &down(&over), 40);
+        self.tidy("tidy, 255 of 40 anywhere", &anywhere, 40);
+        self.tidy("tidy, 255 of 40 apart", &apart, 40);
+        self.tidy("tidy, 255 apart, descending", &down(&apart), 40);
+        self.tidy("tidy, one window of 16,381", &[0], BIG);
+    }
+
     /// The shortest ways out: of a window of cells 9 to 11 at its end's low byte, and of a check at its control byte. One byte each.
     fn closing(&self, job: &str, check: bool, after: usize, wanted: u8) {
         let memory = noise(BIG, 9);
@@ -311,6 +349,7 @@ fn main() {
     bench.list(1, BIG);
     bench.list(255, 8);
     bench.list(255, 40);
+    bench.tidies();
     bench.closing("closing at 11, 00 alone", false, 10, 0x00);
     bench.closing("closing of a check at 2", true, 1, 0x08);
     bench.stopped();

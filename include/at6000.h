@@ -142,6 +142,16 @@ at6000_written at6000_write(uint8_t kind, uint8_t mode, uint8_t control, const u
 at6000_listed at6000_list(uint8_t kind, uint8_t mode, const uint8_t *s, size_t s_len, uint16_t *starts, size_t starts_len,
                           uint16_t *ends, size_t ends_len, uint32_t *offsets, size_t offsets_len);
 
+/* Tidies a stream in mode 1 for one device, so that one meaning has one file. Out comes a stream that loads as this one does: its
+ * control byte and address, null bytes 00, the windows ascending with a cell at least between two (those that overlap or touch
+ * are one), each cell once, with the last value that the stream gives it, and 4D. Two streams come out equal byte for byte, so
+ * that memcmp tells, exactly when their control bytes, their addresses and what they leave of every memory of that kind are
+ * equal. Tidying twice changes nothing. No window is added and the stream gets no longer: an output as long as s always has
+ * room. Bytes after the postamble are not looked at. It does not hunt: in modes 3 and 4 lend it the hunted bytes; in mode 6 lend
+ * it all but the first preamble. A check of it counts a cell that the stream sends twice once. Gives 1 (unknown kind), the
+ * stream's own 5, 8 to 12 or 16, then 15, else 0; outputs as for closing. */
+at6000_written at6000_tidy(uint8_t kind, const uint8_t *s, size_t s_len, uint8_t *out, size_t out_len);
+
 /* In place: the chain is updated where the caller keeps it. Numbers, answers and what is left are those of the calls above. */
 uint8_t at6000_start_in(at6000_chain *c, const uint8_t *mem, size_t mem_len, uint8_t mode, uint8_t check);
 at6000_answer at6000_slice_in(at6000_chain *c, uint8_t *mem, size_t mem_len, const uint8_t *s, size_t s_len);

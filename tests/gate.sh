@@ -17,6 +17,7 @@ tail -n 1 "$said" | grep -Eq '^[0-9]+ passed, 0 failed$'
 rt staticlib at6000
 sh examples/run.sh "$archive" controller | diff examples/controller.out -
 sh examples/run.sh "$archive" patches | diff examples/patches.out -
+sh examples/run.sh "$archive" onefile | diff examples/onefile.out -
 sh tests/compare/run.sh "$archive"
 sh tests/stack/run.sh "$archive"
 sh tests/shortest/run.sh "$archive"

@@ -66,6 +66,20 @@ static void lay(size_t devices, size_t count, size_t each)
     c = at6000_new((uint8_t)devices, kinds, mem, mem_len).chain;
 }
 
+/* The windows that were laid for one device, each from `step` cells on after the one before it, or before it where they descend. */
+static void move(size_t step, int descend)
+{
+    uint8_t *p = stream + 6;
+
+    for (size_t i = 0; i < windows; i++) {
+        const size_t each = data_len / windows, start = (descend ? windows - 1 - i : i) * step, end = start + each - 1;
+        const uint8_t bounds[5] = {0, (uint8_t)(start >> 8), (uint8_t)start, (uint8_t)(end >> 8), (uint8_t)end};
+
+        memcpy(p, bounds, 5);
+        p += 5 + each;
+    }
+}
+
 static void open_run(void)
 {
     c = at6000_start(c, mem, mem_len, 1, check).chain;
@@ -105,6 +119,8 @@ static void list(void)
 {
     number = at6000_list(10, 1, stream, length, listed[0], MOST, listed[1], MOST, offsets, MOST).number;
 }
+
+static void tidy(void) { number = at6000_tidy(10, stream, length, out, sizeof out).number; }
 
 /* Twice, from the same chain: once to warm up, then between the marks. */
 static void count(const char *name, void (*job)(void), int wanted)
@@ -182,9 +198,17 @@ int main(int argc, char **argv)
     lay(1, 1, BIG);
     count("writer, one window of 16,381", write, AT6000_DONE);
     count("lister, one window of 16,381", list, AT6000_DONE);
+    count("tidy, one window of 16,381", tidy, AT6000_DONE);
     lay(1, MOST, 40);
     count("writer, 255 windows of 40", write, AT6000_DONE);
     count("lister, 255 windows of 40", list, AT6000_DONE);
+    count("tidy, 255 windows of 40 apart", tidy, AT6000_DONE);
+    move(64, 1);
+    count("tidy, 255 apart, descending", tidy, AT6000_DONE);
+    move(20, 0);
+    count("tidy, 255 windows of 40 half over", tidy, AT6000_DONE);
+    move(20, 1);
+    count("tidy, 255 half over, descending", tidy, AT6000_DONE);
     lay(1, MOST, 8);
     stop(6 + 13 + 4); /* the second window starts at 64, and its end's high byte is there */
     count("closing at 11, 00 alone", closing, AT6000_DONE);

@@ -11,7 +11,7 @@
 #include <string.h>
 
 enum { FRAME = 1 << 20, ARENA = 1 << 21, GUARD = 32, PIECES = 16 };
-enum { NEW, RESET, START, BYTE, SLICE, CLOSING, SAVE, PICK_UP, HUNT, WRITE, LIST, DROP };
+enum { NEW, RESET, START, BYTE, SLICE, CLOSING, SAVE, PICK_UP, HUNT, WRITE, LIST, DROP, TIDY };
 enum { MADE = 1, FED, WRITTEN, LISTED, MEMORY, OUTPUT, STARTS, ENDS, OFFSETS, HUNTED };
 enum { GUARD_TOUCHED = 1, INPUT_CHANGED = 2 };
 
@@ -358,9 +358,30 @@ static void make_drop(void) {
     put_bytes(MEMORY, mem, mem_len);
 }
 
+/* What was tidied is tidied again, into an output of just its length. */
+static void make_tidy(void) {
+    uint8_t kind = take8(), *out;
+    size_t s_len = take32(), out_len;
+    const uint8_t *s = lend_const(take(s_len), s_len, 1);
+    at6000_written written;
+    out_len = take32();
+    out = lend_output(out_len, take8(), 1);
+    written = at6000_tidy(kind, s, s_len, out, out_len);
+    put_written(written.number, written.length);
+    put_bytes(OUTPUT, out, out_len);
+    if (written.number == AT6000_DONE && written.length <= out_len) {
+        size_t length = written.length;
+        const uint8_t *tidied = lend_const(out, length, 1);
+        uint8_t *again = lend_output(length, 0, 1);
+        written = at6000_tidy(kind, tidied, length, again, length);
+        put_written(written.number, written.length);
+        put_bytes(OUTPUT, again, length);
+    }
+}
+
 static void (*const calls[])(void) = {
     make_new, make_reset, make_start, make_byte, make_slice, make_closing,
-    make_save, make_pick_up, make_hunt, make_write, make_list, make_drop
+    make_save, make_pick_up, make_hunt, make_write, make_list, make_drop, make_tidy
 };
 
 int main(void) {
@@ -380,7 +401,7 @@ int main(void) {
         skew++;
         put8(0);
         call = take8();
-        if (call > DROP) stop("an unknown call");
+        if (call > TIDY) stop("an unknown call");
         calls[call]();
         if (request_at != request_length) stop("a request is too long");
         reply[0] = faults();

@@ -8,6 +8,7 @@ use crate::model::machine::{byte, drop, slice, start, Fed};
 use crate::model::numbers::DONE;
 use crate::model::output::Written;
 use crate::model::saved::{pick_up, save};
+use crate::model::tidy::tidy;
 use crate::model::writer::{write, Order};
 
 /// An output before the call: how long, and the pattern that a refusal has to leave in it.
@@ -42,6 +43,7 @@ pub enum Call {
     Write { order: Order, room: Room },
     List { kind: u8, mode: u8, stream: Vec<u8>, lengths: [usize; 3], fill: u8 },
     Drop { chain: Chain, memory: Vec<u8> },
+    Tidy { kind: u8, stream: Vec<u8>, room: Room },
 }
 
 /// A part of a reply, in the order in which archive.c puts them.
@@ -143,5 +145,16 @@ pub fn by_model(call: &Call) -> Vec<Part> {
             vec![Part::Listed(listed), Part::Starts(starts), Part::Ends(ends), Part::Offsets(offsets)]
         }
         Call::Drop { chain, memory } => vec![Part::Made(drop(*chain, memory.len())), Part::Memory(memory.clone())],
+        Call::Tidy { kind, stream, room } => {
+            let mut output = room.bytes();
+            let once = tidy(*kind, stream, &mut output);
+            let mut parts = vec![Part::Written(once), Part::Output(output)];
+            if once.number == DONE {
+                // "Tidying twice changes nothing": in an output of just that length.
+                let tidied = written(&parts);
+                parts.extend([Part::Written(once), Part::Output(tidied)]);
+            }
+            parts
+        }
     }
 }

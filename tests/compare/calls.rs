@@ -64,7 +64,7 @@ pub fn room(random: &mut Random, needed: usize) -> Room {
 
 /// A call of any name.
 pub fn any(random: &mut Random) -> Call {
-    match random.below(105) {
+    match random.below(113) {
         0..=5 => new(random),
         6..=10 => reset(random),
         11..=19 => start(random),
@@ -76,6 +76,7 @@ pub fn any(random: &mut Random) -> Call {
         83..=88 => stateless::hunt_call(random),
         89..=94 => stateless::write_call(random),
         95..=99 => stateless::list_call(random),
+        100..=107 => stateless::tidy_call(random),
         _ => drop(random),
     }
 }

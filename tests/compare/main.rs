@@ -9,9 +9,12 @@ mod call;
 mod calls;
 mod chains;
 mod damage;
+mod meanings;
 mod model;
+mod patches;
 mod random;
 mod runs;
+mod shapes;
 mod show;
 mod stateless;
 mod states;
@@ -83,7 +86,7 @@ struct Outcome {
     complaints: Vec<String>,
 }
 
-/// Makes the paper's cases, then random calls up to a number of them: single ones and long runs.
+/// Makes the paper's cases, then random calls up to a number of them: single ones, long runs, patches written twice.
 fn ask(seed: u64, calls: u64, to_archive: ChildStdin, to_comparer: Sender<Asked>) -> Outcome {
     let mut random = Random::new(seed);
     let mut asker = Asker { to_archive, to_comparer, batch: Vec::new(), tally: Tally::default(), asked: 0 };
@@ -91,6 +94,8 @@ fn ask(seed: u64, calls: u64, to_archive: ChildStdin, to_comparer: Sender<Asked>
     while asker.asked < calls {
         if random.once_in(12) {
             runs::run(&mut random, &mut |call| asker.make(call));
+        } else if random.once_in(100) {
+            complaints.extend(meanings::one_patch(&mut random, &mut |call| asker.make(call)));
         } else {
             let call = calls::any(&mut random);
             asker.make(call);

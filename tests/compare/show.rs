@@ -57,6 +57,7 @@ pub fn call(call: &Call) -> String {
             format!("kind {kind} mode {mode} stream {}\n    tables of {lengths:?} filled from {fill:02X}", hex(stream))
         }
         Call::Drop { chain, memory } => lent(chain, memory),
+        Call::Tidy { kind, stream, room: out } => format!("kind {kind} stream {}\n    {}", hex(stream), room(out)),
     }
 }
 

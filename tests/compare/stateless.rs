@@ -1,4 +1,4 @@
-//! One random call of those that are lent no state: hunt, write, list.
+//! One random call of those that are lent no state: hunt, write, list, tidy.
 
 use crate::call::Call;
 use crate::calls::{mode, room};
@@ -7,9 +7,11 @@ use crate::model::chain::Chain;
 use crate::model::hunt::{hunt, Hunted};
 use crate::model::kinds::{size_of, KINDS};
 use crate::model::lister::{list, Tables};
-use crate::model::numbers::{PREAMBLE, TWO_PREAMBLES};
+use crate::model::numbers::{DONE, PREAMBLE, TWO_PREAMBLES};
 use crate::model::output::Written;
+use crate::model::tidy::tidy;
 use crate::model::writer::{write, Order};
+use crate::patches;
 use crate::random::Random;
 use crate::streams;
 
@@ -138,4 +140,32 @@ pub fn list_call(random: &mut Random) -> Call {
         lengths[random.below(3)] = if random.once_in(4) { 0 } else { windows.saturating_sub(1) };
     }
     Call::List { kind, mode, stream, lengths, fill: random.byte() }
+}
+
+pub fn tidy_call(random: &mut Random) -> Call {
+    // Many windows that stay apart are for a larger kind.
+    let many = random.once_in(10);
+    let kind = if many { random.pick(&KINDS).0 } else { kind(random) };
+    let size = size_of(kind).unwrap_or(52);
+    let windows = if many { patches::many(random, size) } else { patches::few(random, size) };
+    let mut stream = patches::stream(random, size, &windows);
+    match random.below(16) {
+        0..=2 => streams::damage(random, &mut stream),
+        3 => {
+            // The check byte asks for one more device; bit 2 of the control byte, if set, comes first.
+            let last = stream.len() - 1;
+            stream[1] = random.pick(&[0x00, 0x04, 0xFB, 0xFF]);
+            stream[last] = PREAMBLE;
+        }
+        4 | 5 => {
+            let more = random.pick(&[1, 1, 7, 60]);
+            stream.extend(random.bytes(more));
+        }
+        _ => (),
+    }
+    let mut output = vec![0; stream.len()];
+    let Written { number, length } = tidy(kind, &stream, &mut output);
+    // A refusal, too, is to leave an output that has bytes.
+    let needed = if number == DONE { length as usize } else { stream.len() };
+    Call::Tidy { kind, stream, room: room(random, needed) }
 }

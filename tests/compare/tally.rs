@@ -1,10 +1,12 @@
-//! How often each call gave each number, at which awaited bytes closing, byte and drop met an open run, and which closing
-//! bytes were written where there is more than one sort; what a run of the comparison must have met.
+//! How often each call gave each number, at which awaited bytes closing, byte and drop met an open run, which closing
+//! bytes were written where there is more than one sort, and which sorts of streams the tidier met; what a run of the
+//! comparison must have met.
 
 use crate::call::{written, Call, Part};
 use crate::model::numbers::*;
+use crate::shapes::sorts;
 
-const NAMES: [&str; 15] = [
+const NAMES: [&str; 16] = [
     "new",
     "reset",
     "start",
@@ -17,6 +19,7 @@ const NAMES: [&str; 15] = [
     "write",
     "list",
     "drop",
+    "tidy",
     "start_in",
     "slice_in",
     "pick_up_in",
@@ -45,7 +48,7 @@ const AWAITED: [&str; 14] = [
 const CLOSED: [&str; 4] = ["at 2", "at 11: 00", "at 11: FF", "at 11: longer"];
 
 /// The numbers that each call can give: all of them must be met, and no other may be.
-const NUMBERS: [&[u8]; 15] = [
+const NUMBERS: [&[u8]; 16] = [
     &[0, 1],
     &[0, 1],
     &[0, 1, 2, 3, 17],
@@ -58,6 +61,7 @@ const NUMBERS: [&[u8]; 15] = [
     &[0, 1, 2, 11, 12, 13, 14, 15],
     &[0, 1, 2, 5, 8, 9, 10, 11, 12, 15, 16],
     &[0, 1, 4, 17],
+    &[0, 1, 5, 8, 9, 10, 11, 12, 15, 16],
     &[0, 1, 2, 3, 17],
     &[0, 1, 4, 5, 6, 7, 8, 9, 10, 11, 12, 16, 17],
     &[0, 1, 3, 17],
@@ -83,22 +87,25 @@ const AT: [&[u8]; 14] = [
 ];
 
 const PICK_UP: usize = 7;
+const TIDY: usize = 12;
 
-/// The row of a call, and that of its in-place twin.
+/// The row of a call, and that of the call made right after it: its in-place twin, the pick-up of what was saved, or
+/// the tidying of what was tidied.
 pub fn rows(call: &Call) -> (usize, Option<usize>) {
     match call {
         Call::New { .. } => (0, None),
         Call::Reset { .. } => (1, None),
-        Call::Start { .. } => (2, Some(12)),
+        Call::Start { .. } => (2, Some(13)),
         Call::Byte { .. } => (3, None),
-        Call::Slice { .. } => (4, Some(13)),
+        Call::Slice { .. } => (4, Some(14)),
         Call::Closing { .. } => (5, None),
-        Call::Save { .. } => (6, None),
-        Call::PickUp { .. } => (PICK_UP, Some(14)),
+        Call::Save { .. } => (6, Some(PICK_UP)),
+        Call::PickUp { .. } => (PICK_UP, Some(15)),
         Call::Hunt { .. } => (8, None),
         Call::Write { .. } => (9, None),
         Call::List { .. } => (10, None),
         Call::Drop { .. } => (11, None),
+        Call::Tidy { .. } => (TIDY, Some(TIDY)),
     }
 }
 
@@ -108,13 +115,15 @@ pub fn name(call: &Call) -> &'static str {
 
 #[derive(Default)]
 pub struct Tally {
-    numbers: [[u64; 18]; 15],
+    numbers: [[u64; 18]; 16],
     /// as in RUNS
     awaited: [[u64; 14]; 6],
     /// The numbers of byte, by awaited byte.
     at: [[u64; 18]; 14],
     /// The sorts of CLOSED, each in a write and in a check.
     closed: [[u64; 2]; 4],
+    /// The accepted streams that the tidier was given, by sort.
+    tidied: Vec<(&'static str, u64)>,
 }
 
 /// The row of CLOSED that these closing bytes belong to.
@@ -130,14 +139,21 @@ fn sort_of(awaited: u8, bytes: &[u8]) -> Option<usize> {
 
 impl Tally {
     pub fn count(&mut self, call: &Call, parts: &[Part]) {
-        let (row, twin) = rows(call);
+        let (row, next) = rows(call);
         let mut answers = parts.iter().filter_map(Part::number);
         let first = answers.next().unwrap_or(0);
         self.numbers[row][first as usize] += 1;
-        for (second, number) in answers.enumerate() {
-            // A save that was done is picked up at once.
-            let row = if second == 0 { twin.unwrap_or(PICK_UP) } else { continue };
-            self.numbers[row][number as usize] += 1;
+        if let (Some(row), Some(second)) = (next, answers.next()) {
+            self.numbers[row][second as usize] += 1;
+        }
+        if let Call::Tidy { kind, stream, room } = call {
+            let sorts = sorts(*kind, stream, room);
+            if self.tidied.is_empty() {
+                self.tidied = sorts.iter().map(|&(name, _)| (name, 0)).collect();
+            }
+            for ((_, count), (_, met)) in self.tidied.iter_mut().zip(sorts) {
+                *count += met as u64;
+            }
         }
         let (table, place) = match call {
             Call::Closing { chain, .. } => (0, &chain.place),
@@ -173,6 +189,10 @@ impl Tally {
         table(&AWAITED, &self.at);
         println!("Closing bytes written at 2 and at 11, in a write and in a check:");
         table(&CLOSED, &self.closed);
+        println!("Accepted streams that the tidier was given, by sort:");
+        for (name, count) in &self.tidied {
+            println!("{name:<38}{count:>8}");
+        }
     }
 
     /// What should have been met and was not, or the other way round.
@@ -189,6 +209,9 @@ impl Tally {
             for (check, _) in counts.iter().enumerate().filter(|(_, &count)| count == 0) {
                 complaints.push(format!("closing bytes {name} were never written, check {check}"));
             }
+        }
+        for (name, _) in self.tidied.iter().filter(|(_, count)| *count == 0) {
+            complaints.push(format!("the tidier was never given a stream of the sort: {name}"));
         }
         complaints
     }

@@ -114,6 +114,11 @@ pub fn put_request(to: &mut Vec<u8>, call: &Call) {
             to.push(*fill);
         }
         Call::Drop { chain, memory } => put_state(to, 11, chain, memory),
+        Call::Tidy { kind, stream, room } => {
+            to.extend([12, *kind]);
+            put_bytes(to, stream);
+            put_room(to, room);
+        }
     }
     let length = (to.len() - front - 4) as u32;
     to[front..front + 4].copy_from_slice(&length.to_le_bytes());

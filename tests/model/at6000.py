@@ -2,7 +2,7 @@
 crates' code or definitions.
 
 It is short and slow on purpose: each function follows the paper's sentences in their order, which are quoted beside it. cases.py works
-out with it what the program `cases` must print, listing.py what the program `listing` must. Each of the twelve calls answers its number
+out with it what the program `cases` must print, listing.py what the program `listing` must. Each of the thirteen calls answers its number
 first. Taken from the interface, not from the paper: the names of the state's fields, `running` and `check` as bytes of which any but 0 and
 1 is not well formed in a lent state, and that start takes any check but 0 for a check. Where the paper leaves a choice, the readings in
 docs/DECISIONS.md are followed.
@@ -525,6 +525,41 @@ def list_windows(kind, mode, s, starts, ends, offsets):
         return number, 0, 0, [0, 0, 0], taken, starts, ends, offsets
     tables = [put_table(t, [w[i] for w in windows]) for i, t in enumerate((starts, ends, offsets))]
     return 0, len(windows), control, address, taken, *tables
+
+
+# ---- The tidier
+
+
+def tidied(control, address, values):
+    """The tidied stream. `values` has for each cell its last value, None where no window has the cell."""
+    # "Out come the windows ascending, disjoint, never touching": each is all cells that stand together
+    windows = []
+    for i, value in enumerate(values):
+        if value is None:
+            continue
+        if i == 0 or values[i - 1] is None:
+            windows.append((i, []))
+        windows[-1][1].append(value)
+    # "null bytes zero, control and external address kept"
+    stream = [PREAMBLE, control, *address, len(windows) ^ 0xFF]
+    for first, cells in windows:
+        last = first + len(cells) - 1
+        stream += [0x00, first // 256, first % 256, last // 256, last % 256, *cells]
+    return stream + [POSTAMBLE]
+
+
+def tidy(kind, s, out):
+    """ "a tidier for accepted one-device streams in mode 1"; "Refusals: the lister's, then 15." Answers number, length and the output. """
+    room = [0] * 255  # so that no table is too short
+    number, windows, control, address, _, starts, ends, offsets = list_windows(kind, 1, s, room, room, room)
+    if number != 0:
+        return number, 0, out
+    # "each cell with its last value": "overlaps follow stream order"
+    values = [None] * SIZES[kind]
+    for first, last, offset in list(zip(starts, ends, offsets))[:windows]:
+        for i in range(first, last + 1):
+            values[i] = s[offset + i - first]
+    return put(out, tidied(control, address, values))
 
 
 # ---- The listing program

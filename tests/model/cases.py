@@ -15,7 +15,7 @@ each), of two tables and of the arguments (two bytes each), high byte first. A l
     = state                        a state that the caller makes up
     n, r, s, d, p   number state   new, reset, start, drop, pick-up
     b, f   number taken mismatches state      byte, slice
-    c, v, w   number length        closing, save, write
+    c, v, w, t   number length     closing, save, write, tidy
     h   number p left length       hunt
     l   number windows control address taken starts ends offset ..     list; entries that were not written are ee
 
@@ -202,6 +202,10 @@ class Script:
         got = at6000.write(kind, mode, control, list(address), starts, ends, data, self.blank(room))
         args = address + b"".join(n.to_bytes(2, "big") for n in starts + ends) + data
         return self.written("w", number, want, got, room, args=args, a=kind, b=mode, c=control, starts=len(starts), ends=len(ends))
+
+    def tidy(self, number, kind, s, want=None, room=80):
+        s = bytes_of(s)
+        return self.written("t", number, want, at6000.tidy(kind, s, self.blank(room)), room, args=s, a=kind)
 
     def list(self, number, kind, mode, s, want=None, tables=(4, 4, 4)):
         """`want` is windows, control byte, address and bytes taken, then the windows as start, end, offset, where they are said."""
@@ -1427,6 +1431,140 @@ def cases_list(s):
         assert again[-20:] == sent[-20:].replace(b"\xb2\x00\x33", b"\x00\x00\x33")
 
 
+def patch(*windows):
+    """A stream of these windows, each start, end and data, with a control byte and an address that have to come out again."""
+    return stream(section([window(*w) for w in windows], 0xA5, "010203"))
+
+
+def tidies(s, given, want, kind=0):
+    """Given these windows, out come those; tidied again, the same. As much room as the stream has bytes, then just enough."""
+    given, want = patch(*given), patch(*want)
+    s.tidy(0, kind, given, want, room=len(given))
+    s.tidy(0, kind, want, want, room=len(want))
+
+
+def cases_tidy(s):
+    s.say("tidy, 0: 'Out come the windows ascending, disjoint, never touching, each cell with its last value, null bytes zero'; the paper's case 2")
+    s.tidy(0, 0, "B2 00 000000 FD 00 0009 000B 112233 00 000A 000A 44 4D", "B2 00 000000 FE 00 0009 000B 114433 4D")
+    s.say("tidy, 0: no windows; one cell, the first, the last; what is tidy already")
+    tidies(s, [], [])
+    for cell in (0, 9, 51):
+        tidies(s, [(cell, cell, "11")], [(cell, cell, "11")])
+    tidies(s, [(0, 3, "11223344"), (5, 5, "55"), (50, 51, "6677")], [(0, 3, "11223344"), (5, 5, "55"), (50, 51, "6677")])
+    s.say("tidy, 0: 'control and external address kept', any bits; 'null bytes zero'")
+    for control in (0x00, 0x04, 0x08, 0x10, 0xB2, 0xFF):
+        sent = stream(section([window(9, 9, "11", null=0xB2), window(7, 7, "22", null=0x4D), window(3, 3, "33", null=0x01)], control, "FFB24D"))
+        want = f"B2 {control:02x} FFB24D FC 00 0003 0003 33 00 0007 0007 22 00 0009 0009 11 4D"
+        s.tidy(0, 0, sent, want)
+    s.say("tidy, 0: bytes that look like framing are data: B2, 4D, FF, 00")
+    tidies(s, [(20, 22, "4DB200"), (10, 12, "FFB24D")], [(10, 12, "FFB24D"), (20, 22, "4DB200")])
+    s.say("tidy, 0: 'never touching': windows that touch are one, ascending and descending; with a cell between them they are two")
+    joined, apart = [(9, 13, "1122334455")], [(9, 11, "112233"), (13, 14, "4455")]
+    tidies(s, [(9, 11, "112233"), (12, 13, "4455")], joined)
+    tidies(s, [(12, 13, "4455"), (9, 11, "112233")], joined)
+    tidies(s, apart, apart)
+    tidies(s, apart[::-1], apart)
+    s.say("tidy, 0: a window that fills the cell between two; one that joins two by touching both; three in each order")
+    tidies(s, [*apart, (12, 12, "66")], [(9, 14, "112233664455")])
+    tidies(s, [(12, 12, "66"), *apart[::-1]], [(9, 14, "112233664455")])
+    three = [(9, 10, "1122"), (11, 12, "3344"), (13, 14, "5566")]
+    for i, j, k in ((0, 1, 2), (0, 2, 1), (1, 0, 2), (1, 2, 0), (2, 0, 1), (2, 1, 0)):
+        tidies(s, [three[i], three[j], three[k]], [(9, 14, "112233445566")])
+    s.say("tidy, 0: 'each cell with its last value', 'overlaps follow stream order': over the end, over the start, either one first")
+    tidies(s, [(9, 12, "11223344"), (11, 14, "A1A2A3A4")], [(9, 14, "1122A1A2A3A4")])
+    tidies(s, [(11, 14, "A1A2A3A4"), (9, 12, "11223344")], [(9, 14, "11223344A3A4")])
+    tidies(s, [(9, 10, "1122"), (10, 11, "3344"), (11, 12, "5566")], [(9, 12, "11335566")])
+    tidies(s, [(11, 12, "5566"), (10, 11, "3344"), (9, 10, "1122")], [(9, 12, "11224466")])
+    s.say("tidy, 0: one within another, the inner last and the outer last; at either end; the same window three times; a zero over another value")
+    tidies(s, [(5, 9, "1122334455"), (6, 8, "A1A2A3")], [(5, 9, "11A1A2A355")])
+    tidies(s, [(6, 8, "A1A2A3"), (5, 9, "1122334455")], [(5, 9, "1122334455")])
+    tidies(s, [(5, 9, "1122334455"), (5, 6, "A1A2"), (9, 9, "A3")], [(5, 9, "A1A23344A3")])
+    tidies(s, [(5, 6, "1122"), (5, 6, "3344"), (5, 6, "1144")], [(5, 6, "1144")])
+    tidies(s, [(5, 5, "11"), (5, 5, "00")], [(5, 5, "00")])
+    s.say("tidy, 0: the first window's values stay where no later one comes: a whole device, then single cells")
+    device = bytearray(0x80 + i for i in range(52))
+    singles = [(i, i, [i]) for i in (51, 30, 0, 31, 17)]
+    for i, _, (value,) in singles:
+        device[i] = value
+    tidies(s, [(0, 51, range(0x80, 0x80 + 52)), *singles], [(0, 51, device)])
+    s.say("tidy, 0: windows on both sides of a high byte: 255 and 256 touch, 254 and 256 do not; 10, 256, 511 and 2560 are in order")
+    tidies(s, [(256, 258, "A1A2A3"), (254, 255, "1122")], [(254, 258, "1122A1A2A3")], 2)
+    tidies(s, [(256, 256, "A1"), (254, 254, "11")], [(254, 254, "11"), (256, 256, "A1")], 2)
+    four = [(10, 10, "33"), (256, 256, "11"), (511, 511, "A1"), (2560, 2560, "22")]
+    tidies(s, [four[2], four[1], four[3], four[0]], four, 2)
+    s.say("tidy, 0: 255 windows of a cell each: all apart, and 'more windows than given are never needed'; ascending, descending, every seventh")
+    cells = [(2 * i, 2 * i, [i]) for i in range(255)]
+    for order in (cells, cells[::-1], [cells[7 * i % 255] for i in range(255)]):
+        tidies(s, order, cells, 2)
+    s.say("tidy, 0: 255 windows of a cell each that touch: one comes out; all on one cell; nearly five times round the teaching array")
+    cells = [(100 + i, 100 + i, [i]) for i in range(255)]
+    for order in (cells, cells[::-1], [cells[7 * i % 255] for i in range(255)]):
+        tidies(s, order, [(100, 354, range(255))], 2)
+    tidies(s, [(9, 9, [i]) for i in range(255)], [(9, 9, "FE")])
+    tidies(s, [(i % 52, i % 52, [i]) for i in range(255)], [(0, 51, [*range(208, 255), *range(203, 208)])])
+    for kind, size in SIZES.items():
+        s.say(f"tidy, 0: a whole device in pieces that touch or overlap is one window, size + 12 bytes: kind {kind}, {size + 12}; its ends; all but one cell")
+        data = [(i * i) % 251 for i in range(size)]
+        cuts = [0, size // 5, size // 3, size // 2, size - 1, size]
+        pieces = [(a, b - 1, data[a:b]) for a, b in zip(cuts, cuts[1:])]
+        given = [pieces[i] for i in (3, 0, 4, 2, 1)]
+        given.insert(0, (size // 4, size // 2 + 1, [0xEE] * (size // 2 - size // 4 + 2)))
+        tidies(s, given, [(0, size - 1, data)], kind)
+        tidies(s, [(size - 1, size - 1, "11"), (0, 0, "22")], [(0, 0, "22"), (size - 1, size - 1, "11")], kind)
+        halves = [(0, size // 2 - 1, data[: size // 2]), (size // 2 + 1, size - 1, data[size // 2 + 1 :])]
+        tidies(s, halves[::-1], halves, kind)
+    s.say("tidy, 0: bytes after the postamble are not looked at, whatever they are")
+    two = [(20, 21, "4455"), (9, 11, "112233")]
+    for after in ("00", "4D", "B2", "FFFFFFFFFFFFFFFF", patch(*two).hex()):
+        s.tidy(0, 0, patch(*two) + bytes_of(after), patch(*two[::-1]), room=28)
+    s.say("tidy, 0: 'Three people write one patch with different windows': equal bytes; and other bytes for another control byte, address, value or cell")
+    ways = [[(9, 13, "1122334455")], [(12, 13, "4455"), (9, 11, "112233")], [(9, 13, "1122000055"), (13, 13, "00"), (11, 13, "334455"), (9, 9, "11")]]
+    assert len({s.tidy(0, 0, patch(*way)) for way in ways}) == 1
+    others = [patch(*way) for way in (ways[0], [(9, 13, "1122334456")], [(9, 12, "11223344")], [(9, 14, "112233445500")], [(10, 14, "1122334455")])]
+    others += [stream(section([window(*ways[0][0])], *head)) for head in ((0xA4, "010203"), (0xA5, "000203"), (0xA5, "010003"), (0xA5, "010200"))]
+    assert len({s.tidy(0, 0, other) for other in others}) == 9
+    s.say("tidy, 0: what is tidied loads as what was given, into a memory that holds other values")
+    given = patch(*ways[2], (40, 41, "6677"), (38, 38, "88"))
+    once, left = s.tidy(0, 0, given), []
+    for sent in (given, once):
+        s.new(0, 1, [0])
+        s.fill(0x01, 0x03)
+        s.start(0, 1)
+        s.feed(0, sent)
+        left.append(s.mem)
+    assert left[0] == left[1]
+    s.say("tidy, 1: an unknown kind, before everything")
+    for kind in (1, 4, 6, 9, 11, 255):
+        s.tidy(1, kind, patch(*two))
+        s.tidy(1, kind, "", room=0)
+    s.say("tidy, 5: at the preamble; it does not hunt, and in mode 1 a second preamble is a control byte")
+    s.tidy(5, 0, "00" + patch(*two).hex())
+    s.tidy(5, 0, "4D")
+    s.tidy(5, 0, at_bit(3, patch(*two)))
+    s.tidy(0, 0, "B2 B2 000000 FF 4D", "B2 B2 000000 FF 4D")
+    s.tidy(16, 0, "B2 B2 00 000000 FF 4D")
+    s.say("tidy, 8, 9, 10, 11, 12: 'the lister's', before 15")
+    for room in (80, 0):
+        s.tidy(8, 0, patch(*two)[:-1] + b"\x00", room=room)
+        s.tidy(9, 0, patch(*two)[:-1] + b"\xb2", room=room)
+        s.tidy(10, 0, stream(section([]), section([])), room=room)
+        s.tidy(11, 0, patch((9, 11, "112233"), (52, 52, "44")), room=room)
+        s.tidy(12, 0, patch((51, 52, "4455")), room=room)
+        s.tidy(12, 0, "B2 00 000000 FE 00 000B 0009", room=room)
+    for kind, size in SIZES.items():
+        s.tidy(11, kind, patch((0, 0, "11"), (size, size, "22")))
+        s.tidy(12, kind, patch((0, 0, "11"), (size - 1, size, "2233")))
+    s.say("tidy, 16: 'slice used up', at every byte of a stream, with room and without")
+    for k in range(len(patch(*two))):
+        s.tidy(16, 0, patch(*two)[:k])
+        s.tidy(16, 0, patch(*two)[:k], room=0)
+    s.say("tidy, 15: 'output .. shorter than needed' by the tidied stream: a byte less, none; just enough, though the stream is longer")
+    for given, want in (([], []), (two, two[::-1]), ([(9, 11, "112233")] * 5, [(9, 11, "112233")]), ([(12, 13, "4455"), (9, 11, "112233")], joined)):
+        n = len(patch(*want))
+        for number, room in ((15, n - 1), (15, 0), (0, n), (0, n + 1)):
+            s.tidy(number, 0, patch(*given), room=room)
+
+
 def ending(s):
     """The number with which closing bytes end a run, by the awaited byte: 5, 7, 0, 11 or 12 as the byte refused is a preamble, the control byte of a
     check, none, a start or an end."""
@@ -1563,13 +1701,14 @@ def cases_drop(s):
 
 ALL = [cases_new, cases_reset, cases_start, cases_bytes, cases_preamble, cases_control, cases_windows, cases_check_byte, cases_check, cases_guide]
 ALL += [cases_chains, cases_closing, cases_closing_11, cases_closing_2, cases_saved, cases_picked_up, cases_hunt, cases_write, cases_list]
-ALL += [cases_stops, cases_drop]
+ALL += [cases_stops, cases_drop, cases_tidy]
 
 
 # Every number that each call can give, by the paper's table; each is given at least once.
 FED = {0, 1, 4, 5, 6, 7, 8, 9, 10, 11, 12, 16, 17}
 CAN_GIVE = {"n": {0, 1}, "r": {0, 1}, "s": {0, 1, 2, 3, 17}, "b": FED, "f": FED, "c": {0, 1, 4, 15, 17}, "v": {0, 1, 4, 15, 17}, "p": {0, 1, 3, 17}}
 CAN_GIVE |= {"d": {0, 1, 4, 17}, "h": {0, 5, 15}, "w": {0, 1, 2, 11, 12, 13, 14, 15}, "l": {0, 1, 2, 5, 8, 9, 10, 11, 12, 15, 16}}
+CAN_GIVE |= {"t": {0, 1, 5, 8, 9, 10, 11, 12, 15, 16}}
 
 
 def main():

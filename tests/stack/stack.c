@@ -25,6 +25,19 @@ static size_t mem_len = BIG, s_len = LENGTH, out_len = LENGTH, tables = 1;
 static uint16_t starts[1] = {0}, ends[1] = {BIG - 1}, listed[2];
 static uint32_t offset;
 
+/* A stream of as many windows as there can be, descending: they overlap, or stand apart, as the step says. */
+enum { MOST = 255, EACH = 40, MANY = 6 + MOST * (5 + EACH) + 1 };
+static uint8_t many[MANY] = {0xb2, 0, 0, 0, 0, 255 - MOST, [MANY - 1] = 0x4d};
+static void lay_many(int step)
+{
+    for (int i = 0; i < MOST; i++) {
+        const int start = (MOST - 1 - i) * step, end = start + EACH - 1;
+        uint8_t *p = many + 6 + i * (5 + EACH);
+
+        p[1] = (uint8_t)(start >> 8), p[2] = (uint8_t)start, p[3] = (uint8_t)(end >> 8), p[4] = (uint8_t)end;
+    }
+}
+
 /* Every call goes through this pointer: the empty one then has the same caller and the same arguments. */
 static void (*volatile called)(void);
 
@@ -47,6 +60,7 @@ CALL(pick_up_in, , (&copy, mem, mem_len, saved, sizeof saved))
 CALL(hunt, .number, (s, s_len, out, out_len))
 CALL(write, .number, (kind, mode, 0, address, starts, tables, ends, tables, mem, BIG, out, out_len))
 CALL(list, .number, (kind, mode, s, s_len, listed, 1, listed + 1, 1, &offset, tables))
+CALL(tidy, .number, (kind, s, s_len, out, out_len))
 #define ON_A_CHAIN \
     &a_start, &a_start_in, &a_slice, &a_slice_in, &a_byte, &a_closing, &a_save, &a_drop, &a_pick_up, &a_pick_up_in
 
@@ -126,30 +140,37 @@ static void stop(size_t n)
 
 int main(void)
 {
-    const struct call *all[] = {&a_new, &a_reset, ON_A_CHAIN, &a_hunt, &a_write, &a_list};
+    const struct call *all[] = {&a_new, &a_reset, ON_A_CHAIN, &a_hunt, &a_write, &a_list, &a_tidy};
 
     /* within the window, the places between its second byte and its last are alike */
     for (check = 0; check < 2; check++)
         for (size_t n = 0; n <= LENGTH; n = n == HEAD + 1 ? HEAD + BIG - 1 : n + 1)
             stop(n);
     s = stream, s_len = LENGTH;
-    GIVES(AT6000_DONE, &a_hunt, &a_write, &a_list);
+    GIVES(AT6000_DONE, &a_hunt, &a_write, &a_list, &a_tidy);
     tables = out_len = 0;
-    GIVES(AT6000_TOO_SHORT, &a_hunt, &a_list);
+    GIVES(AT6000_TOO_SHORT, &a_hunt, &a_list, &a_tidy);
     GIVES(AT6000_BAD_DATA, &a_write);
     tables = 1, out_len = LENGTH - 1;
-    GIVES(AT6000_TOO_SHORT, &a_hunt, &a_write);
+    GIVES(AT6000_TOO_SHORT, &a_hunt, &a_write, &a_tidy);
     s_len--;
-    GIVES(AT6000_MORE, &a_list);
+    GIVES(AT6000_MORE, &a_list, &a_tidy);
     stream[0] = 0xb2 << 5 & 255, stream[1] = 0xb2 >> 3; /* the preamble at bit 5 */
     GIVES(AT6000_DONE, &a_hunt);
-    GIVES(AT6000_NO_PREAMBLE, &a_list);
+    GIVES(AT6000_NO_PREAMBLE, &a_list, &a_tidy);
     s++;
-    GIVES(AT6000_NO_PREAMBLE, &a_hunt, &a_list);
+    GIVES(AT6000_NO_PREAMBLE, &a_hunt, &a_list, &a_tidy);
     ends[0]++;
     GIVES(AT6000_BAD_END, &a_write);
     mode = 7;
     GIVES(AT6000_BAD_MODE, &a_write, &a_list);
+    s = many, s_len = MANY;
+    lay_many(EACH / 2);
+    GIVES(AT6000_DONE, &a_tidy);
+    lay_many(EACH + 2);
+    GIVES(AT6000_DONE, &a_tidy);
+    kind = 11;
+    GIVES(AT6000_BAD_CHAIN, &a_write, &a_list, &a_tidy);
     for (size_t i = 0; i < sizeof all / sizeof *all; i++)
         printf("%s %zu bytes\n", all[i]->name, all[i]->most);
     return 0;

@@ -16,6 +16,7 @@ ghost use Rattle.saved.specs.Calls.{Save, PickUp};
 ghost use Rattle.hunt.specs.Hunt.{Hunt};
 ghost use Rattle.writer.specs.Write.{Write};
 ghost use Rattle.lister.specs.Listing.{Lists};
+ghost use Rattle.tidy.specs.Tidy.{Tidies};
 
 #[no_mangle]
 pub extern "C" fn at6000_new(count: u8, kinds: &[u8; 8], mem: &[u8]) -> Made
@@ -117,6 +118,13 @@ pub extern "C" fn at6000_list(
     ensures { λ r. ⌜ Lists kind mode (now (s .entry)) (now (starts .entry)) (now (ends .entry)) (now (offsets .entry)) r (now (starts .exit)) (now (ends .exit)) (now (offsets .exit)) ⌝ }
 {
     lister::list(kind, mode, s, starts, ends, offsets)
+}
+
+#[no_mangle]
+pub extern "C" fn at6000_tidy(kind: u8, s: &[u8], out: &mut [u8]) -> Written
+    ensures { λ r. ⌜ Tidies kind (now (s .entry)) (now (out .entry)) r (now (out .exit)) ⌝ }
+{
+    tidy::tidy(kind, s, out)
 }
 
 // For a controller's main loop. Each in-place call is its call by value, with the chain stored back and the answer handed on.

@@ -216,6 +216,10 @@ pub fn on_output(call: Call, c: Chain, mem: &[u8], args: &[u8], out: &mut [u8]) 
             show::byte(h.left);
             length(h.length);
         }
+        b't' => {
+            let w = tidy::tidy(call.a, args, out);
+            written(w.number, w.length);
+        }
         b'w' | b'l' => {
             on_tables(call, args, out);
         }

@@ -7,6 +7,7 @@ use Rattle.demands.proofs.numbers.SliceTables.{slice-table}
 use Rattle.demands.proofs.numbers.HuntTables.{hunt-table}
 use Rattle.demands.proofs.numbers.WriteTables.{write-table}
 use Rattle.demands.proofs.numbers.ListTables.{list-table, list-taken, list-refused}
+use Rattle.demands.proofs.numbers.TidyTables.{tidy-table, tidy-refused}
 use Rattle.demands.proofs.numbers.Refused.{new-refused, reset-refused, start-refused, drop-refused, drop-done, byte-ended, slice-refused, slice-ended, more-open, closing-refused, save-refused, pick-up-refused, hunt-refused, write-refused}
 
 pub demand1 : Demand1
@@ -28,6 +29,7 @@ demand1 =
             write = write-table;
             list = list-table;
             list-taken = list-taken;
+            tidy = tidy-table;
           };
       refusals =
           record {
@@ -46,5 +48,6 @@ demand1 =
             hunt = hunt-refused;
             write = write-refused;
             list = list-refused;
+            tidy = tidy-refused;
           };
     }

@@ -5,6 +5,7 @@ pub mod files
 pub mod Demand2
 pub mod stops
 pub mod patches
+pub mod tidy
 pub mod WherePreamble
 pub mod Promised
 pub mod EightDevices

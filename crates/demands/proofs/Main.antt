@@ -25,9 +25,10 @@ use Rattle.demands.specs.WherePreamble.{Where, SaysWhere}
 use Rattle.demands.specs.Shortest.{Amended, Shortest}
 use Rattle.demands.specs.Patches.{PatchesExactly, Apart, AnyOrder, Stacked}
 use Rattle.demands.specs.WrittenOnce.{WrittenAsOne}
+use Rattle.demands.specs.OneFile.{KeepsTidy, AcceptedExactly, TidiesOnly, TidiesAll, OneFile, Twice, OnlyTidied}
 use Rattle.demands.specs.Ours.{ours}
 use Rattle.demands.specs.Cases.{table, All}
-use Rattle.demands.specs.Wrong.{constant, idle, taking, undoing, eager, exclusiveEnd, plainCount, barring, checkWrites, unloading, loadingFirst, earlierWins, wiping, shortClosing, offering, OlderAtEnd, OlderAtControl, offsetsFromFirst, leftBefore, fromOne, toldRefused}
+use Rattle.demands.specs.Wrong.{constant, idle, taking, undoing, eager, exclusiveEnd, plainCount, barring, checkWrites, unloading, loadingFirst, earlierWins, wiping, untidied, earlierKept, touchingApart, shortClosing, offering, OlderAtEnd, OlderAtControl, offsetsFromFirst, leftBefore, fromOne, toldRefused}
 use Rattle.demands.proofs.Demand1.{demand1}
 use Rattle.demands.proofs.Demand2.{demand2}
 use Rattle.demands.proofs.loads.TwelveCases.{twelve}
@@ -37,12 +38,16 @@ use Rattle.demands.proofs.stops.ShortestWay.{shortest, shorter-goes-on}
 use Rattle.demands.proofs.patches.TwoLaws.{patches-exactly, apart, stacked}
 use Rattle.demands.proofs.patches.WrittenOnce.{written-as-one}
 use Rattle.demands.proofs.patches.TwoPatches.{any-order-out}
+use Rattle.demands.proofs.tidy.OneMeaning.{accepted-exactly, tidies-all}
+use Rattle.demands.proofs.tidy.OnlyAccepted.{tidies-only, tidy-kept}
+use Rattle.demands.proofs.tidy.NoOther.{only-tidied, one-file-each, twice}
 use Rattle.demands.proofs.WherePreamble.{where-began, where-only}
 use Rattle.demands.proofs.wrong.Shut.{constant-out, idle-out, taken-out, per-slice-out}
 use Rattle.demands.proofs.wrong.Eager.{eager-out}
 use Rattle.demands.proofs.wrong.Readings.{exclusive-end-out, plain-count-out, barring-out, check-writes-out, unloading-out, loading-first-out, earlier-wins-out, undoing-out, short-closing-out, offsets-out}
 use Rattle.demands.proofs.wrong.OlderClosing.{older-end-out, older-control-out, nothing-out}
 use Rattle.demands.proofs.wrong.PatchOrders.{wiping-apart-out, wiping-stacked-out, barring-stacked-out, offsets-written-out}
+use Rattle.demands.proofs.wrong.Tidiers.{untidied-out, earlier-kept-out, touching-apart-out}
 use Rattle.demands.proofs.wrong.HuntFigures.{left-before-out, from-one-out, told-refused-out}
 
 -- 1. 'It takes every byte string, mode, chain and saved place. Public calls ask nothing of the caller. Each refusal has its number in
@@ -126,6 +131,45 @@ our-patches = (
   patches-written-once ours (demand2 .a) (demand2 .b) (demand2 .c),
 )
 
+-- Document 02, wish 2: 'Add a tidier for accepted one-device streams in mode 1', which are those that one device loads whole,
+pub all-accepted : (l : Loader) → Demand2a l → Demand2e l → AcceptedExactly l
+all-accepted = accepted-exactly
+
+-- and whatever is tidied begins with one. The numbers, 'the lister's, then 15', are in the first demand
+pub only-accepted : (l : Loader) → KeepsTidy l → TidiesOnly l
+only-accepted = tidies-only
+
+-- 'Out come the windows ascending, disjoint, never touching, each cell with its last value, null bytes zero, control and external address kept.' The last
+-- values are those that the stream leaves: both load alike, on every memory. 'And more windows than given are never needed'; an output as long as the
+-- stream has room. Of every loader whose tidier keeps its promise and that meets clause (a)
+pub stream-tidied : (l : Loader) → Demand2a l → KeepsTidy l → TidiesAll l
+stream-tidied = tidies-all
+
+-- and that leaves a tidier no other bytes. From here on of every loader that meets clause (a) and tidies so, whatever its tidier promises
+pub no-other-bytes : (l : Loader) → Demand2a l → TidiesAll l → OnlyTidied l
+no-other-bytes = only-tidied
+
+-- 'Two streams tidy to equal bytes exactly when they agree in control byte, external address and their effect on every memory of that kind.'
+pub one-meaning-one-file : (l : Loader) → Demand2a l → TidiesAll l → OneFile l
+one-meaning-one-file = one-file-each
+
+-- 'Tidying twice changes nothing'
+pub tidied-twice : (l : Loader) → Demand2a l → TidiesAll l → Twice l
+tidied-twice = twice
+
+-- so it is of ours; ThreeFiles has files of one meaning and of two, by computation
+pub our-tidier : KeepsTidy ours × AcceptedExactly ours × TidiesOnly ours × TidiesAll ours × OnlyTidied ours × OneFile ours × Twice ours
+our-tidier =
+    let tidies = stream-tidied ours (demand2 .a) tidy-kept in (
+      tidy-kept,
+      all-accepted ours (demand2 .a) (demand2 .e),
+      only-accepted ours tidy-kept,
+      tidies,
+      no-other-bytes ours (demand2 .a) tidies,
+      one-meaning-one-file ours (demand2 .a) tidies,
+      tidied-twice ours (demand2 .a) tidies,
+    )
+
 -- The twelve cases of the paper, one table
 pub twelve-cases : All 1 table
 twelve-cases = twelve
@@ -167,6 +211,10 @@ pub record ShutOut : Type 0 where
   pub wiping-stacked : Stacked wiping → ⊥
   pub own-bar-stacked : Stacked barring → ⊥
   pub offsets-written : WrittenAsOne offsetsFromFirst → ⊥
+  -- document 02, wish 2: the stream given back as it came; of overlapping windows the earlier; touching windows left apart
+  pub tidies-nothing : OneFile untidied → ⊥
+  pub keeps-earlier : TidiesAll earlierKept → ⊥
+  pub leaves-touching : TidiesAll touchingApart → ⊥
   -- the hunt: the bits before the preamble for those left; positions from 1; a position with a refusal
   pub left-before : SaysWhere leftBefore → ⊥
   pub from-one : SaysWhere fromOne → ⊥
@@ -196,6 +244,9 @@ shut-out =
       wiping-stacked = wiping-stacked-out;
       own-bar-stacked = barring-stacked-out;
       offsets-written = offsets-written-out;
+      tidies-nothing = untidied-out;
+      keeps-earlier = earlier-kept-out;
+      leaves-touching = touching-apart-out;
       left-before = left-before-out;
       from-one = from-one-out;
       told-refused = told-refused-out;

@@ -13,6 +13,7 @@ use Rattle.hunt.specs.declared.Hunted.{Hunted}
 use Rattle.hunt.specs.Hunt.{Hunt}
 use Rattle.lister.specs.declared.Listed.{Listed}
 use Rattle.lister.specs.Listing.{Lists}
+use Rattle.tidy.specs.Tidy.{Tidies}
 use Rattle.demands.specs.Loader.{AfterSlice, AfterWrite, AfterHunt, AfterList}
 use Rattle.demands.specs.Ours.{ours}
 
@@ -38,3 +39,7 @@ hunt-ours s out r out′ h = rw (h .answer, h .output)
 pub list-ours : (kind mode : ℕ) (s starts ends offsets : List ℕ) (r : Listed) (a b d : List ℕ) → Lists kind mode s starts ends offsets r a b d
     → _≡_ {A = AfterList} (record { listed = r; starts = a; ends = b; offsets = d }) (ours .list kind mode s starts ends offsets)
 list-ours kind mode s starts ends offsets r a b d h = rw (h .answer, h .starts-left, h .ends-left, h .offsets-left)
+
+pub tidy-ours : (kind : ℕ) (s out : List ℕ) (r : Written) (out′ : List ℕ) → Tidies kind s out r out′
+    → _≡_ {A = AfterWrite} (record { written = r; out = out′ }) (ours .tidy kind s out)
+tidy-ours kind s out r out′ h = rw (h .answer, h .output)

@@ -7,5 +7,6 @@ pub mod ByteTables
 pub mod ByteNumbers
 pub mod SliceTables
 pub mod ListTables
+pub mod TidyTables
 pub mod Refused
 pub mod InPlace

@@ -6,3 +6,4 @@ pub mod RefusedChecks
 pub mod HuntFigures
 pub mod PatchOrders
 pub mod OlderClosing
+pub mod Tidiers

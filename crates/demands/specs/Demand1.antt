@@ -18,13 +18,14 @@ use Rattle.hunt.specs.Hunt.{huntOf, huntOut}
 use Rattle.writer.specs.Write.{writeOf, writeOutput}
 use Rattle.lister.specs.declared.Listed.{Listed}
 use Rattle.lister.specs.Listing.{preambleAt, listedOf, listed, Lists}
+use Rattle.tidy.specs.Tidy.{tidyOf, tidyOutput}
 use Rattle.chain.specs.Bytes.{Bytes}
 use Rattle.chain.specs.Table.{Table, chainTable, openTable, Running}
 use Rattle.demands.specs.Table.{startTable, closingTable, saveTable, PickUpNumbers, huntTable, writeTable}
 use Rattle.demands.specs.ByteTable.{byteTable, sliceNumber, sliceTable, ByteNumbers}
-use Rattle.demands.specs.ListTable.{listTable, ListTaken}
+use Rattle.demands.specs.ListTable.{listTable, ListTaken, tidyTable}
 
--- each number exactly when. The lister's stream is of bytes, as its type in the code says
+-- each number exactly when. The lister's stream is of bytes, as its type in the code says, and so is the tidier's
 pub record Numbers : Type 0 where
   pub new : (count : ℕ) (kinds m : List ℕ) → Table (newOf count kinds (length m) .number) (chainTable count kinds m) done
   pub reset : (c : Chain) (m : List ℕ) → Table (resetOf c (length m) .number) (chainTable (c .count) (c .kinds) m) done
@@ -43,6 +44,7 @@ pub record Numbers : Type 0 where
       → Table (listedOf s (preambleAt mode) (listed kind mode s starts ends offsets) .number) (listTable kind mode s starts ends offsets) done
   pub list-taken : (kind mode : ℕ) (s : List ℕ) → Bytes s → (starts ends offsets : List ℕ)
       → ListTaken kind mode s (listedOf s (preambleAt mode) (listed kind mode s starts ends offsets) .taken)
+  pub tidy : (kind : ℕ) (s : List ℕ) → Bytes s → (out : List ℕ) → Table (tidyOf kind s (length out) .number) (tidyTable kind s out) done
 
 -- what a slice that 1, 17 or 4 refuses leaves
 pub record AsLent (c : Chain) (m s : List ℕ) : Type 0 where
@@ -112,6 +114,8 @@ pub record Refusals : Type 0 where
   pub list : (kind mode : ℕ) (s starts ends offsets : List ℕ) (r : Listed) (starts′ ends′ offsets′ : List ℕ)
       → Lists kind mode s starts ends offsets r starts′ ends′ offsets′ → r .number ≢ done
       → ListRefused starts ends offsets r starts′ ends′ offsets′
+  pub tidy : (kind : ℕ) (s out : List ℕ) → tidyOf kind s (length out) .number ≢ done
+      → NothingWritten (tidyOf kind s (length out) .length) out (tidyOutput kind s out)
 
 pub record Demand1 : Type 0 where
   pub numbers : Numbers

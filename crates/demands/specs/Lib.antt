@@ -11,6 +11,7 @@ pub mod Shortest
 pub mod Files
 pub mod Patches
 pub mod WrittenOnce
+pub mod OneFile
 pub mod Second
 pub mod Ours
 pub mod Wrong

@@ -1,4 +1,4 @@
--- The lister's numbers: kind (1), mode, the stream's own number, then 15. Assumes nothing.
+-- The lister's numbers: kind (1), mode, the stream's own number, then 15; and the tidier's, which reads a stream in mode 1. Assumes nothing.
 use Prim.Native.Nat.{ℕ, _<_}
 use mathlib.Core.Logic.{_⊎_}
 use mathlib.Core.Path.{_≡_}
@@ -10,6 +10,7 @@ use Rattle.chain.specs.Kinds.{sizeOf}
 use Rattle.chain.specs.Calls.{newOf}
 use Rattle.machine.specs.Calls.{startOf, sliceOf}
 use Rattle.lister.specs.Listing.{preambleAt, countAt}
+use Rattle.tidy.specs.Tidy.{tidied}
 use Rattle.chain.specs.WellFormed.{Known, Between}
 use Rattle.chain.specs.Table.{Claim, _when_, NoMode}
 use Rattle.demands.specs.ByteTable.{sliceNumber}
@@ -54,3 +55,9 @@ listTable kind mode s starts ends offsets =
     (bad-chain when (Known kind → ⊥))
     ∷ (bad-mode when NoMode mode)
     ∷ ownTable kind mode s ((too-short when Shorter (countAt s (preambleAt mode)) starts ends offsets) ∷ [])
+
+-- document 02, wish 2: 'Refusals: the lister's, then 15'; there is no mode to refuse
+abbrev pub tidyTable : ℕ → List ℕ → List ℕ → List Claim
+tidyTable kind s out =
+    (bad-chain when (Known kind → ⊥))
+    ∷ ownTable kind first-mode s ((too-short when length out < length (tidied (sizeOf kind) s)) ∷ [])

@@ -47,19 +47,23 @@ pub record Loader : Type 0 where
   pub write : ℕ → ℕ → ℕ → List ℕ → List ℕ → List ℕ → List ℕ → List ℕ → AfterWrite
   pub list : ℕ → ℕ → List ℕ → List ℕ → List ℕ → List ℕ → AfterList
   pub hunt : List ℕ → List ℕ → AfterHunt
+  pub tidy : ℕ → List ℕ → List ℕ → AfterWrite
 
 -- a loader with one call replaced
 abbrev pub with·slice : Loader → (Chain → List ℕ → List ℕ → AfterSlice) → Loader
-with·slice l f = record { start = l .start; slice = f; closing = l .closing; write = l .write; list = l .list; hunt = l .hunt }
+with·slice l f = record { start = l .start; slice = f; closing = l .closing; write = l .write; list = l .list; hunt = l .hunt; tidy = l .tidy }
 
 abbrev pub with·closing : Loader → (Chain → List ℕ → List ℕ → AfterWrite) → Loader
-with·closing l f = record { start = l .start; slice = l .slice; closing = f; write = l .write; list = l .list; hunt = l .hunt }
+with·closing l f = record { start = l .start; slice = l .slice; closing = f; write = l .write; list = l .list; hunt = l .hunt; tidy = l .tidy }
 
 abbrev pub with·list : Loader → (ℕ → ℕ → List ℕ → List ℕ → List ℕ → List ℕ → AfterList) → Loader
-with·list l f = record { start = l .start; slice = l .slice; closing = l .closing; write = l .write; list = f; hunt = l .hunt }
+with·list l f = record { start = l .start; slice = l .slice; closing = l .closing; write = l .write; list = f; hunt = l .hunt; tidy = l .tidy }
 
 abbrev pub with·hunt : Loader → (List ℕ → List ℕ → AfterHunt) → Loader
-with·hunt l f = record { start = l .start; slice = l .slice; closing = l .closing; write = l .write; list = l .list; hunt = f }
+with·hunt l f = record { start = l .start; slice = l .slice; closing = l .closing; write = l .write; list = l .list; hunt = f; tidy = l .tidy }
+
+abbrev pub with·tidy : Loader → (ℕ → List ℕ → List ℕ → AfterWrite) → Loader
+with·tidy l f = record { start = l .start; slice = l .slice; closing = l .closing; write = l .write; list = l .list; hunt = l .hunt; tidy = f }
 
 -- a lent chain that no number refuses, with no run open: eight kinds and registers, and bytes, as the types of the code say
 pub record Idle (c : Chain) (m : List ℕ) : Type 0 where

@@ -6,6 +6,7 @@ use Rattle.closing.specs.Calls.{closingOf, closingOutput}
 use Rattle.writer.specs.Write.{writeOf, writeOutput}
 use Rattle.lister.specs.Listing.{preambleAt, listed, listing, listedOf, startsOf, endsOf, offsetsOf}
 use Rattle.hunt.specs.Hunt.{huntOf, huntOut}
+use Rattle.tidy.specs.Tidy.{tidyOf, tidyOutput}
 use Rattle.demands.specs.Loader.{Loader}
 
 abbrev pub ours : Loader
@@ -29,4 +30,5 @@ ours =
             offsets = sets offsets 0 (offsetsOf (preambleAt mode) (listing kind mode s starts ends offsets));
           };
       hunt = λ s out. record { hunted = huntOf s (length out); out = huntOut s out };
+      tidy = λ kind s out. record { written = tidyOf kind s (length out); out = tidyOutput kind s out };
     }

@@ -1,15 +1,17 @@
 -- Loaders that the demands shut out: ours, with one call replaced. Assumes nothing.
-use Prim.Native.Nat.{ℕ, _+_, _-_, _%_}
-use mathlib.Core.Bool.{_&&_, _||_, not}
+use Prim.Native.Nat.{ℕ, zero, suc, _+_, _-_, _%_}
+use mathlib.Core.Bool.{Bool, false, _&&_, _||_, not}
 use mathlib.Core.Path.{_≡_}
-use mathlib.Core.List.{List, [], _∷_}
+use mathlib.Core.List.{List, [], _∷_, map, reverse}
 use lib.Dec.{eqb, ltb}
-use lib.ListN.{length, getD, replicate}
+use lib.ListN.{length, getD, take, replicate}
 use Rattle.chain.specs.declared.Chain.{Chain}
 use Rattle.chain.specs.declared.Place.{Place}
-use Rattle.chain.specs.Paper.{postamble, no-windows, at·preamble, at·control, at·address, at·count, at·null, at·end-low, at·data, at·check, writing, checking, two-preambles, done, barred, no-check, too-short, more, B4}
+use Rattle.chain.specs.Paper.{postamble, no-windows, at·preamble, at·control, at·address, at·count, at·null, at·end-low, at·data, at·check, writing, checking, first-mode, two-preambles, done, barred, no-check, too-short, more, B4}
 use Rattle.chain.specs.Rules.{pick, _gives_, firstOf}
 use Rattle.chain.specs.Output.{onDone, writtenOf, outputOf}
+use Rattle.chain.specs.Kinds.{sizeOf}
+use Rattle.chain.specs.Calls.{noChain}
 use Rattle.chain.specs.Set.{with·check, with·awaited, with·left, with·end, with·place}
 use Rattle.chain.specs.State.{openRules, feedNumber}
 use Rattle.chain.specs.Window.{highByte, lowByte, withLow}
@@ -19,7 +21,13 @@ use Rattle.machine.specs.Calls.{answered, fedOf}
 use Rattle.closing.specs.Closing.{storedRegister, window, refusesFF}
 use Rattle.hunt.specs.declared.Hunted.{Hunted}
 use Rattle.hunt.specs.Hunt.{foundAt}
-use Rattle.demands.specs.Loader.{Loader, AfterSlice, with·slice, with·closing, with·list, with·hunt}
+use Rattle.grammar.specs.Sent.{bytesOf}
+use Rattle.grammar.specs.Stream.{Window, streamSent}
+use Rattle.writer.specs.Stream.{sectionOf}
+use Rattle.lister.specs.Listing.{controlAt, streamStop}
+use Rattle.tidy.specs.Spans.{Span, span, has, covered}
+use Rattle.tidy.specs.Tidy.{givenOf, lastByte, windowOver, tidyWindows, tidyRules}
+use Rattle.demands.specs.Loader.{Loader, AfterSlice, with·slice, with·closing, with·list, with·hunt, with·tidy}
 use Rattle.demands.specs.Ours.{ours}
 
 -- ours, with what a slice leaves altered
@@ -115,6 +123,49 @@ loadingFirst = bent (λ c m b t. pick (eqb (t .number) no-check) (loaded t (regi
 -- a write that begins with an empty memory, so that what earlier patches stored is lost
 abbrev pub wiping : Loader
 wiping = bent (λ c m b t. pick (awaits c at·preamble && writes c) (run (t .chain) (replicate (length m) 0) (t .number)) t)
+
+-- ---- document 02, wish 2: tidiers, refused as ours is, 15 by the length of their own bytes
+
+abbrev pub tidyingTo : (ℕ → List ℕ → List ℕ) → Loader
+tidyingTo f =
+    with·tidy ours
+    (λ kind s out.
+    let n = firstOf (tidyRules (sizeOf kind) s (length (f kind s)) (length out)) done in
+    record { written = writtenOf n (f kind s); out = outputOf n (f kind s) out })
+
+-- gives the stream back as it came, up to its postamble
+abbrev pub untidied : Loader
+untidied = tidyingTo (λ kind s. take (streamStop (sizeOf kind) first-mode s .taken) s)
+
+-- other windows, made of the device's size and the given ones; control byte and external address kept
+abbrev pub rewindowed : (ℕ → List Window → List Window) → Loader
+rewindowed f =
+    tidyingTo
+    (λ kind s.
+    let x = sectionOf (controlAt s 0) (getD s 2 0 ∷ getD s 3 0 ∷ getD s 4 0 ∷ []) (f (sizeOf kind) (givenOf (sizeOf kind) s)) in
+    bytesOf (streamSent noChain first-mode x []))
+
+-- of overlapping windows the earlier wins: as if the last came first
+abbrev pub earlierKept : Loader
+earlierKept = rewindowed (λ size ws. tidyWindows size (reverse ws))
+
+-- windows that touch are left apart, those that overlap joined: cell a goes on to the next one where some window has both
+abbrev pub goesOn : List Window → ℕ → Bool
+goesOn [] a = false
+goesOn (w ∷ ws) a = has (w .start) (w .end) a && has (w .start) (w .end) (a + 1) || goesOn ws a
+
+abbrev pub longer : ℕ → List Span → List Span
+longer a [] = span a a ∷ []
+longer a (x ∷ xs) = span a (x .end) ∷ xs
+
+abbrev pub overlapSpans : List Window → ℕ → ℕ → List Span
+overlapSpans ws zero a = []
+overlapSpans ws (suc n) a =
+    let xs = overlapSpans ws n (suc a) in
+    pick (covered ws a) (pick (goesOn ws a) (longer a xs) (span a a ∷ xs)) xs
+
+abbrev pub touchingApart : Loader
+touchingApart = rewindowed (λ size ws. map (windowOver (lastByte ws)) (overlapSpans ws size 0))
 
 -- ---- other calls
 

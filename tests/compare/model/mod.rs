@@ -10,5 +10,6 @@ pub mod machine;
 pub mod numbers;
 pub mod output;
 pub mod saved;
+pub mod tidy;
 pub mod well_formed;
 pub mod writer;

@@ -1,0 +1,4 @@
+pub mod Spans
+pub mod Tidy
+pub mod InOrder
+pub mod Steps

@@ -1,0 +1,147 @@
+-- For the contracts of private helpers alone, no promise cites it. Spans as the code keeps them, one number each, start * 65536 + end: put in
+-- order, joined, framed in the output, and the windows' data laid over the frames. Assumes nothing.
+use Prim.Native.Nat.{ℕ, _+_, _-_, _/_, _%_, _≤_, _<_}
+use mathlib.Core.Bool.{Bool, false, _||_}
+use mathlib.Core.Logic.{_⊎_}
+use mathlib.Core.Path.{_≡_}
+use mathlib.Core.List.{List, [], _∷_, _++_}
+use lib.Dec.{ltb, leb}
+use lib.ListN.{length, getD}
+use lib.Seq.{sets}
+use Rattle.chain.specs.Paper.{preamble, postamble, no-windows, done, too-short}
+use Rattle.chain.specs.Rules.{pick}
+use Rattle.chain.specs.Window.{widthOf, highByte, lowByte}
+use Rattle.grammar.specs.Stream.{Window}
+use Rattle.grammar.specs.Tables.{nullByte}
+use Rattle.lister.specs.Windows.{windowsStop}
+use Rattle.lister.specs.Listing.{head-length, countAt}
+use Rattle.tidy.specs.Spans.{Span, span, has, covered, valuesOf}
+use Rattle.tidy.specs.Tidy.{windowsAt}
+
+-- ---- a table of spans
+
+unfoldable pub decoded : ℕ → Span
+decoded x = span (x / 65536) (x % 65536)
+
+abbrev pub spansIn : List ℕ → List Span
+spansIn [] = []
+spansIn (x ∷ xs) = decoded x ∷ spansIn xs
+
+-- the spans of windows, in the stream's order
+abbrev pub boundsOf : List Window → List Span
+boundsOf [] = []
+boundsOf (w ∷ ws) = span (w .start) (w .end) ∷ boundsOf ws
+
+-- ---- joined
+
+-- the span c, and those after it, whose starts ascend from its own: what touches is one
+unfoldable pub joinFrom : Span → List Span → List Span
+joinFrom c [] = c ∷ []
+joinFrom c (x ∷ xs) =
+    pick (leb (x .start) (c .end + 1)) (joinFrom (span (c .start) (pick (ltb (c .end) (x .end)) (x .end) (c .end))) xs) (c ∷ joinFrom x xs)
+
+abbrev pub joined : List Span → List Span
+joined [] = []
+joined (x ∷ xs) = joinFrom x xs
+
+-- ascending from a on, in order, with a cell at least between two
+abbrev pub Spaced : ℕ → List Span → Type 0
+Spaced a [] = Unit {0}
+Spaced a (x ∷ xs) = (a ≤ x .start) × (x .start ≤ x .end) × Spaced (x .end + 2) xs
+
+-- all ends below n
+abbrev pub Below : ℕ → List Span → Type 0
+Below n [] = Unit {0}
+Below n (x ∷ xs) = (x .end < n) × Below n xs
+
+-- some span has cell i
+unfoldable pub spanned : List Span → ℕ → Bool
+spanned [] i = false
+spanned (x ∷ xs) i = has (x .start) (x .end) i || spanned xs i
+
+-- one span has all cells from a to b
+abbrev pub Inside : List Span → ℕ → ℕ → Type 0
+Inside [] a b = ⊥
+Inside (x ∷ xs) a b = ((x .start ≤ a) × (b ≤ x .end)) ⊎ Inside xs a b
+
+abbrev pub AllInside : List Span → List Window → Type 0
+AllInside xs [] = Unit {0}
+AllInside xs (w ∷ ws) = Inside xs (w .start) (w .end) × AllInside xs ws
+
+-- xs are the spans of the windows ws of a device of that size
+pub record Gathered (size : ℕ) (ws : List Window) (xs : List Span) : Type 0 where
+  pub spaced : Spaced 0 xs
+  pub below : Below size xs
+  pub cells : (i : ℕ) → spanned xs i ≡ covered ws i
+  pub inside : AllInside xs ws
+
+-- ---- laid out
+
+-- a window's bytes, null byte 00
+abbrev pub windowBytes : ℕ → ℕ → List ℕ → List ℕ
+windowBytes start end bytes = nullByte ∷ highByte start ∷ lowByte start ∷ highByte end ∷ lowByte end ∷ bytes
+
+-- the windows over spans, with a value for each cell
+unfoldable pub render : List Span → (ℕ → ℕ) → List ℕ
+render [] v = []
+render (x ∷ xs) v = windowBytes (x .start) (x .end) (valuesOf v (widthOf (x .start) (x .end)) (x .start)) ++ render xs v
+
+-- how many bytes they take
+unfoldable pub longOf : List Span → ℕ
+longOf [] = 0
+longOf (x ∷ xs) = 5 + widthOf (x .start) (x .end) + longOf xs
+
+-- where each one's first cell stands, the first window's null byte at `at`: kept as a span's start and that place
+unfoldable pub placesOf : ℕ → List Span → List Span
+placesOf at [] = []
+placesOf at (x ∷ xs) = span (x .start) (at + 5) ∷ placesOf (at + 5 + widthOf (x .start) (x .end)) xs
+
+-- where cell a stands: by the last entry that starts at or below it
+unfoldable pub slotFrom : Span → List Span → ℕ → ℕ
+slotFrom x [] a = x .end + (a - x .start)
+slotFrom x (y ∷ ys) a = pick (leb (y .start) a) (slotFrom y ys a) (x .end + (a - x .start))
+
+abbrev pub slotIn : List Span → ℕ → ℕ
+slotIn [] a = 0
+slotIn (x ∷ xs) a = slotFrom x xs a
+
+-- starts ascend
+abbrev pub Rising : ℕ → List Span → Type 0
+Rising a [] = Unit {0}
+Rising a (x ∷ xs) = (a ≤ x .start) × Rising (x .start) xs
+
+-- the windows' data laid over an output, one after another, each from where its first cell stands
+unfoldable pub paintAll : List Window → List Span → List ℕ → List ℕ
+paintAll [] xs o = o
+paintAll (w ∷ ws) xs o = paintAll ws xs (sets o (slotIn xs (w .start)) (w .bytes))
+
+-- the whole stream of spans with a value for each cell, head and all
+unfoldable pub laidOut : List ℕ → List Span → (ℕ → ℕ) → List ℕ
+laidOut s xs v =
+    (preamble ∷ getD s 1 0 ∷ getD s 2 0 ∷ getD s 3 0 ∷ getD s 4 0 ∷ (no-windows - length xs) ∷ [])
+    ++ render xs v
+    ++ (postamble ∷ [])
+
+-- what is needed to lay out the stream of the n windows that were read whole in s: their spans, where the postamble goes, and room for it. The size is
+-- bounded, so that a place in the output is a number of two bytes
+pub record Ready (size : ℕ) (s : List ℕ) (n : ℕ) (xs : List Span) (end room : ℕ) : Type 0 where
+  pub head : head-length ≤ length s
+  pub whole : windowsStop size s n head-length .number ≡ done
+  pub few : length xs ≤ 255
+  pub small : size ≤ 64000
+  pub gathered : Gathered size (windowsAt size s n head-length) xs
+  pub end-is : end ≡ 6 + longOf xs
+  pub fits : end < room
+
+-- a stream that was read whole, n its windows, none larger than a device; long is the length of the table for their spans
+pub record ReadWhole (size : ℕ) (s : List ℕ) (n long : ℕ) : Type 0 where
+  pub head : head-length ≤ length s
+  pub count : n ≡ countAt s 0
+  pub whole : windowsStop size s n head-length .number ≡ done
+  pub few : n ≤ long
+  pub table : long ≤ 255
+  pub small : size ≤ 64000
+
+-- the number that is left to give then
+abbrev pub roomNumber : ℕ → ℕ → ℕ
+roomNumber long room = pick (ltb room long) too-short done
