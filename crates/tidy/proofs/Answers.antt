@@ -18,7 +18,7 @@ use Rattle.lister.specs.Windows.{windowsStop}
 use Rattle.lister.specs.Listing.{preambleAt, head-length, countAt, streamStop}
 use Rattle.lister.proofs.Listings.{stream-done}
 use Rattle.tidy.specs.Tidy.{windowsAt, lastByte, tidied, tidyNumber, Tidies}
-use Rattle.tidy.specs.Steps.{spansIn, Gathered, longOf, laidOut, Ready, ReadWhole, roomNumber}
+use Rattle.tidy.specs.Steps.{spansIn, Gathered, longOf, AtPlaces, laidOut, Ready, ReadWhole, roomNumber}
 use Rattle.tidy.proofs.Lengths.{in-length}
 use Rattle.tidy.proofs.Whole.{laid-is, laid-length}
 
@@ -30,18 +30,19 @@ refused m n bytes out e h = record { answer = rw (e, ne-eqb n done h); output = 
 
 -- ---- a stream that was read whole
 
-module _ (size : ℕ) (s : List ℕ) (n : ℕ) (table out : List ℕ) (q : ReadWhole size s n (length table)) where
+module _ (size : ℕ) (s : List ℕ) (n : ℕ) (table ends out : List ℕ) (q : ReadWhole size s n (length table) (length ends)) where
   -- the front of the table is lent, as long as there are windows
   pub front : length (take n table) ≡ n
   front = length-take-le n table (q .few)
 
-  pub lent : windowsStop size s (length (take n table)) head-length .number ≡ done
-  lent = rw front (q .whole)
+  pub lent : (windowsStop size s (length (take n table)) head-length .number ≡ done) × (length (take n table) ≤ 255) × (length ends ≡ 256) × (size ≤ 64000)
+  lent = (rw front (q .whole), omega (arith, front, q .few, q .table), q .ends, q .small)
 
-  -- m spans come back in it
-  module _ (back : List ℕ) (m : ℕ)
+  -- m spans come back in it, and the windows' places in the other table
+  module _ (back places : List ℕ) (m : ℕ)
       (g : (m ≤ length (take n table)) × (length back ≡ length (take n table))
-      × Gathered size (windowsAt size s (length (take n table)) head-length) (spansIn (take m back))) where
+      × Gathered size (windowsAt size s (length (take n table)) head-length) (spansIn (take m back))
+      × AtPlaces places (spansIn (take m back)) 0 (windowsAt size s (length (take n table)) head-length)) where
     abbrev spans : List ℕ
     spans = take m (back ++ drop n table)
 
@@ -60,6 +61,9 @@ module _ (size : ℕ) (s : List ℕ) (n : ℕ) (table out : List ℕ) (q : ReadW
     gathered : Gathered size (windowsAt size s n head-length) (spansIn spans)
     gathered = rw spans-are (rw front at (g .2))
 
+    placed : AtPlaces places (spansIn spans) 0 (windowsAt size s n head-length)
+    placed = rw spans-are (rw front at (g .3))
+
     module _ (end : ℕ) (e : end ≡ 6 + longOf (spansIn spans)) where
       -- as the code counts the windows and lays them out
       is : laidOut s (spansIn spans) (lastByte (windowsAt size s n head-length)) ≡ tidied size s
@@ -73,14 +77,15 @@ module _ (size : ℕ) (s : List ℕ) (n : ℕ) (table out : List ℕ) (q : ReadW
           refused (roomNumber (length (tidied size s)) (length out)) too-short (tidied size s) out
           (rw (lt-ltb (length out) (length (tidied size s)) (omega (arith, long)))) (λ z. omega (arith, z))
 
-      pub ready : end < length out → Ready size s n (spansIn spans) end (length out)
-      ready h =
+      pub ready : length places ≡ length ends → end < length out → Ready size s n (spansIn spans) places end (length out)
+      ready t h =
           record {
             head = q .head;
             whole = q .whole;
             few = omega (arith, few, in-length spans);
-            small = q .small;
+            table = omega (arith, q .few, q .table, q .ends);
             gathered = gathered;
+            placed = placed;
             end-is = e;
             fits = h;
           }
@@ -115,9 +120,9 @@ module _ (kind : ℕ) (s out : List ℕ) where
       pub head-there : 6 ≤ length s
       head-there = read .0
 
-      pub read-whole : (long : ℕ) → long ≡ 255 → ReadWhole size s (countAt s 0) long
-      read-whole long e =
-          record { head = read .0; count = refl; whole = read .1; few = omega arith; table = omega arith; small = omega (arith, size-most kind) }
+      pub read-whole : (long many : ℕ) → long ≡ 255 → many ≡ 256 → ReadWhole size s (countAt s 0) long many
+      read-whole long many e f =
+          record { head = read .0; count = refl; whole = read .1; few = omega arith; table = omega arith; ends = f; small = omega (arith, size-most kind) }
 
       pub all : (w : Written) (out′ : List ℕ) → Writes (roomNumber (length (tidied size s)) (length out)) (tidied size s) out w out′ → Tidies kind s out w out′
       all w out′ t =

@@ -1,4 +1,4 @@
--- What holds of some span of a table holds of some span of it in any other order. Assumes nothing.
+-- What holds of the span of some window in a table holds of that of some window in any other order. Assumes nothing.
 use Prim.Native.Nat.{ℕ, _+_}
 use mathlib.Core.Bool.{Bool, true, false, _&&_, _||_, true≢false, false≢true}
 use mathlib.Core.Path.{_≡_, refl, sym, _∙_}
@@ -12,26 +12,26 @@ use Rattle.chain.proofs.Means.{m-le, m-and}
 use Rattle.chain.specs.Rules.{pick}
 use Rattle.tidy.specs.Spans.{Span, has}
 use Rattle.tidy.specs.InOrder.{total, Same}
-use Rattle.tidy.specs.Steps.{decoded, spansIn, Below, spanned, Inside}
-use Rattle.tidy.proofs.Joining.{Ordered}
+use Rattle.tidy.specs.Steps.{keySpan, keySpans, Ordered, Below, spanned, Inside}
 
 abbrev pub anySpan : (Span → Bool) → List Span → Bool
 anySpan t [] = false
 anySpan t (x ∷ xs) = t x || anySpan t xs
 
 -- counted, they are as many in any order
-abbrev counting : (Span → Bool) → ℕ → ℕ
-counting t x = pick (t (decoded x)) 1 0
+module _ (ends : List ℕ) (t : Span → Bool) where
+  abbrev counting : ℕ → ℕ
+  counting x = pick (t (keySpan ends x)) 1 0
 
-any-counted : (t : Span → Bool) (xs : List ℕ) → anySpan t (spansIn xs) ≡ ltb 0 (total (counting t) xs)
-any-counted t [] = refl
-any-counted t (x ∷ xs) =
-    by-test (t (decoded x))
-    (λ e. rw e (sym (lt-ltb 0 (1 + total (counting t) xs) (omega arith))))
-    (λ e. let z : 0 + total (counting t) xs ≡ total (counting t) xs = omega arith in rw (e, z) (any-counted t xs))
+  any-counted : (xs : List ℕ) → anySpan t (keySpans ends xs) ≡ ltb 0 (total counting xs)
+  any-counted [] = refl
+  any-counted (x ∷ xs) =
+      by-test (t (keySpan ends x))
+      (λ e. rw e (sym (lt-ltb 0 (1 + total counting xs) (omega arith))))
+      (λ e. let z : 0 + total counting xs ≡ total counting xs = omega arith in rw (e, z) (any-counted xs))
 
-pub same-any : (t : Span → Bool) (xs ys : List ℕ) → Same xs ys → anySpan t (spansIn xs) ≡ anySpan t (spansIn ys)
-same-any t xs ys h = any-counted t xs ∙ rw (h (counting t)) (sym (any-counted t ys))
+  pub same-any : (xs ys : List ℕ) → Same xs ys → anySpan t (keySpans ends xs) ≡ anySpan t (keySpans ends ys)
+  same-any xs ys h = any-counted xs ∙ rw (h counting) (sym (any-counted ys))
 
 -- ---- what is said by it
 

@@ -1,21 +1,17 @@
 -- Spans whose starts ascend, joined where they touch: the same cells, ascending with gaps. Assumes nothing.
-use Prim.Native.Nat.{ℕ, _+_, _≤_, _<_}
+use Prim.Native.Nat.{ℕ, _+_, _-_, _≤_, _<_}
 use mathlib.Core.Bool.{Bool, true, false, _||_}
 use mathlib.Core.Path.{_≡_, refl, sym, _∙_}
 use mathlib.Core.Logic.{_⊎_, inl, inr, ⊎-elim}
 use mathlib.Core.List.{List, [], _∷_}
 use native.Mathlib.Omega.{arith}
-use borrow.Author.Tests.{ltb-true, ltb-false, leb-true, leb-false}
+use borrow.Author.Tests.{le-leb, ltb-true, ltb-false, leb-true, leb-false}
 use lib.Dec.{ltb, leb}
+use lib.ListN.{length}
 use Rattle.chain.proofs.ByCases.{by-test}
 use Rattle.tidy.specs.Spans.{Span, span, has}
-use Rattle.tidy.specs.Steps.{joinFrom, joined, Spaced, Below, spanned, Inside, Rising}
+use Rattle.tidy.specs.Steps.{joinFrom, joined, Rising, Ordered, Spaced, Below, spanned, Inside, slotOf}
 use Rattle.tidy.proofs.HasCell.{has-yes, has-true, has-false}
-
--- no span ends below its start
-abbrev pub Ordered : List Span → Type 0
-Ordered [] = Unit {0}
-Ordered (x ∷ xs) = (x .start ≤ x .end) × Ordered xs
 
 pub rising-less : (a b : ℕ) (xs : List Span) → b ≤ a → Rising a xs → Rising b xs
 rising-less a b [] h r = tt
@@ -98,6 +94,19 @@ inside-other (x ∷ xs) c a b r h =
     (λ y. inside-other xs (span (c .start) n) a b (rising-less (x .start) (c .start) xs (r .0) (r .1)) y) h)
     (λ g. inr (⊎-elim (λ y. inside-first xs x a b (y .0) (y .1)) (λ y. inside-other xs x a b (r .1) y) h))
 
+join-fewer : (xs : List Span) (c : Span) → length (joinFrom c xs) ≤ length xs + 1
+unfolding joinFrom
+join-fewer [] c = omega arith
+join-fewer (x ∷ xs) c =
+    ways (λ l. length l ≤ length (x ∷ xs) + 1) c x xs (λ n t u v k. omega (arith, join-fewer xs (span (c .start) n))) (λ g. omega (arith, join-fewer xs x))
+
+-- a cell of the first span stands in the first one joined
+pub join-slot : (xs : List Span) (c : Span) (a : ℕ) → a ≤ c .end → slotOf (joinFrom c xs) a ≡ 5 + (a - c .start)
+unfolding joinFrom slotOf
+join-slot [] c a h = rw (le-leb a (c .end) h)
+join-slot (x ∷ xs) c a h =
+    ways (λ l. slotOf l a ≡ 5 + (a - c .start)) c x xs (λ n t u v k. join-slot xs (span (c .start) n) a (omega arith)) (λ g. rw (le-leb a (c .end) h))
+
 -- ---- of a whole list
 
 pub joined-spaced : (xs : List Span) → Rising 0 xs → Ordered xs → Spaced 0 (joined xs)
@@ -116,3 +125,7 @@ joined-below (x ∷ xs) n b = join-below xs x n (b .0) (b .1)
 pub joined-inside : (xs : List Span) (a b : ℕ) → Rising 0 xs → Inside xs a b → Inside (joined xs) a b
 joined-inside [] a b r h = absurd h
 joined-inside (x ∷ xs) a b r h = ⊎-elim (λ y. inside-first xs x a b (y .0) (y .1)) (λ y. inside-other xs x a b (r .1) y) h
+
+pub joined-fewer : (xs : List Span) → length (joined xs) ≤ length xs
+joined-fewer [] = omega arith
+joined-fewer (x ∷ xs) = omega (arith, join-fewer xs x)

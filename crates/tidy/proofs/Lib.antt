@@ -8,12 +8,12 @@ pub mod Sinking
 pub mod Passing
 pub mod Joining
 pub mod AnySpan
+pub mod Indexes
 pub mod Given
+pub mod Lengths
 pub mod Collecting
 pub mod JoinTurns
 pub mod Gathering
-pub mod Lengths
-pub mod Slots
 pub mod Framing
 pub mod SpanCells
 pub mod WindowEffect

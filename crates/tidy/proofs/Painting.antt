@@ -1,11 +1,11 @@
 -- A window's data laid over the windows of spans changes the values of its cells and nothing else; all windows laid one after another leave in each
 -- cell what they send there last. Assumes nothing.
-use Prim.Native.Nat.{ℕ, _+_, _-_, _≤_, _<_}
+use Prim.Native.Nat.{ℕ, suc, _+_, _-_, _≤_, _<_}
 use mathlib.Core.Path.{_≡_, refl, sym, ap, _∙_}
 use mathlib.Core.Logic.{⊎-elim}
 use mathlib.Core.List.{List, [], _∷_, _++_, append-assoc}
 use native.Mathlib.Omega.{arith}
-use borrow.Author.Tests.{le-leb, lt-leb, leb-true, leb-false}
+use borrow.Author.Tests.{leb-true, leb-false}
 use lib.Dec.{leb}
 use lib.Seq.{sets, take-all}
 use Rattle.chain.proofs.ByCases.{by-test}
@@ -15,17 +15,10 @@ use Rattle.grammar.specs.Sent.{memory, lastTo}
 use Rattle.grammar.specs.Stream.{Window, windowsSent}
 use Rattle.grammar.specs.Fits.{Fits, AllFit}
 use Rattle.tidy.specs.Spans.{Span, has, valuesOf}
-use Rattle.tidy.specs.Steps.{Spaced, Inside, AllInside, windowBytes, render, placesOf, slotFrom, slotIn, paintAll}
+use Rattle.tidy.specs.Steps.{Spaced, Inside, AllInside, windowBytes, render, slotOf, AtPlaces, paintAll}
 use Rattle.tidy.proofs.HasCell.{has-yes, has-below, has-above}
 use Rattle.tidy.proofs.Values.{sets-after, sets-before, values-length, values-same, values-bytes, values-laid}
 use Rattle.tidy.proofs.WindowEffect.{byteFor, windows-more}
-
--- ---- where a cell stands
-
--- told by the ends of the spans before it
-unfoldable slotOf : List Span → ℕ → ℕ
-slotOf [] a = 0
-slotOf (x ∷ xs) a = pick (leb a (x .end)) (5 + (a - x .start)) (5 + widthOf (x .start) (x .end) + slotOf xs a)
 
 -- cells inside of spans are not below them
 inside-above : (xs : List Span) (l a b : ℕ) → a ≤ b → Spaced l xs → Inside xs a b → l ≤ a
@@ -33,20 +26,6 @@ inside-above [] l a b h s i = absurd i
 inside-above (x ∷ xs) l a b h s i =
     ⊎-elim (λ y. omega (arith, s .0, y .0))
     (λ y. let z = inside-above xs (x .end + 2) a b h (s .2) y in omega (arith, s .0, s .1)) i
-
-place-slot : (xs : List Span) (l at a b : ℕ) → a ≤ b → Spaced l xs → Inside xs a b → slotIn (placesOf at xs) a ≡ at + slotOf xs a
-unfolding placesOf slotFrom slotOf
-place-slot [] l at a b h s i = absurd i
-place-slot (x ∷ []) l at a b h s i =
-    ⊎-elim (λ y. rw (le-leb a (x .end) (omega (arith, y .1))) (omega arith)) (λ y. absurd y) i
-place-slot (x ∷ y ∷ ys) l at a b h s i =
-    by-test (leb a (x .end))
-    (λ t. let k = leb-true a (x .end) t in
-    rw (t, lt-leb (y .start) a (omega (arith, s .2 .0))) (omega arith))
-    (λ t. let k = leb-false a (x .end) t in
-    let later : Inside (y ∷ ys) a b = ⊎-elim (λ z. absurd (omega (arith, z .1))) (λ (z : Inside (y ∷ ys) a b). z) i in
-    let g = inside-above (y ∷ ys) (y .start) a b h (omega arith, s .2 .1, s .2 .2) later in
-    rw (t, le-leb (y .start) a g) (place-slot (y ∷ ys) (x .end + 2) (at + 5 + widthOf (x .start) (x .end)) a b h (s .2) later ∙ omega arith))
 
 -- ---- one window
 
@@ -119,15 +98,15 @@ module _ (size : ℕ) (w : Window) (f : Fits size w) (v : ℕ → ℕ) where
 
 -- ---- one after another
 
-pub paint-all : (size : ℕ) (ws : List Window) (xs : List Span) (rest : List ℕ) (v : ℕ → ℕ) → Spaced 0 xs → AllFit size ws → AllInside xs ws
-    → paintAll ws (placesOf 0 xs) (render xs v ++ rest) ≡ render xs (λ i. lastTo memory (windowsSent 0 ws) i (v i)) ++ rest
+pub paint-all : (size : ℕ) (places : List ℕ) (k : ℕ) (ws : List Window) (xs : List Span) (rest : List ℕ) (v : ℕ → ℕ) → Spaced 0 xs → AllFit size ws
+    → AllInside xs ws → AtPlaces places xs k ws
+    → paintAll places k ws (render xs v ++ rest) ≡ render xs (λ i. lastTo memory (windowsSent 0 ws) i (v i)) ++ rest
 unfolding paintAll
-paint-all size [] xs rest v o f i = refl
-paint-all size (w ∷ ws) xs rest v o f i =
+paint-all size places k [] xs rest v o f i p = refl
+paint-all size places k (w ∷ ws) xs rest v o f i p =
     let u : ℕ → ℕ = laid size w (f .0) v in
-    let k : slotIn (placesOf 0 xs) (w .start) ≡ slotOf xs (w .start) = place-slot xs 0 0 (w .start) (w .end) (f .0 .order) o (i .0) ∙ omega arith in
-    rw (k, paint-one size w (f .0) v xs 0 rest o (i .0))
-    (paint-all size ws xs rest u o (f .1) (i .1)
+    rw (p .0, paint-one size w (f .0) v xs 0 rest o (i .0))
+    (paint-all size places (suc k) ws xs rest u o (f .1) (i .1) (p .1)
     ∙ ap (λ (l : List ℕ). l ++ rest)
     (render-same (λ j. lastTo memory (windowsSent 0 ws) j (u j)) (λ j. lastTo memory (windowsSent 0 (w ∷ ws)) j (v j)) xs 0 o
     (λ j h. sym (windows-more size w ws j (v j) (f .0)))))

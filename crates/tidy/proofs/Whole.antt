@@ -16,10 +16,10 @@ use Rattle.lister.specs.Listing.{head-length, countAt}
 use Rattle.writer.proofs.Over.{copied, then-over, then-byte, length-over}
 use Rattle.tidy.specs.Spans.{Span, covered, spansOf, valuesOf}
 use Rattle.tidy.specs.Tidy.{windowsAt, givenOf, lastByte, windowOver, tidyWindows, tidied}
-use Rattle.tidy.specs.Steps.{spansIn, Spaced, Gathered, render, longOf, placesOf, Rising, paintAll, laidOut, Ready}
+use Rattle.tidy.specs.Steps.{spansIn, Gathered, render, longOf, AtPlaces, paintAll, laidOut, Ready}
 use Rattle.tidy.proofs.Canon.{spans-are}
 use Rattle.tidy.proofs.Given.{windows-fit}
-use Rattle.tidy.proofs.Lengths.{in-length, render-length, long-within}
+use Rattle.tidy.proofs.Lengths.{in-length, render-length}
 use Rattle.tidy.proofs.Painting.{paint-all}
 
 -- ---- the bytes
@@ -54,21 +54,13 @@ pub laid-length : (s : List ℕ) (xs : List Span) (v : ℕ → ℕ) → length (
 unfolding laidOut
 laid-length s xs v = simp (length-append, render-length xs v) (omega arith)
 
--- ---- places
-
-pub places-rising : (xs : List Span) (l at a : ℕ) → Spaced l xs → a ≤ l → Rising a (placesOf at xs)
-unfolding placesOf
-places-rising [] l at a s h = tt
-places-rising (x ∷ xs) l at a s h =
-    (omega (arith, s .0), places-rising xs (x .end + 2) (at + 5 + widthOf (x .start) (x .end)) (x .start) (s .2) (omega (arith, s .1)))
-
 -- ---- laid into the output
 
-painted : (size : ℕ) (s : List ℕ) (n : ℕ) (xs : List Span) (six o o₁ ys : List ℕ) → windowsStop size s n head-length .number ≡ done → Gathered size (windowsAt size s n head-length) xs
-    → length six ≡ 6 → o₁ ≡ over (six ++ render xs (λ (i : ℕ). 0)) o
-    → ys ≡ paintAll (windowsAt size s n head-length) (placesOf 0 xs) (take (length o₁ - 6) (drop 6 o₁))
+painted : (size : ℕ) (s : List ℕ) (n : ℕ) (xs : List Span) (places six o o₁ ys : List ℕ) → windowsStop size s n head-length .number ≡ done
+    → Gathered size (windowsAt size s n head-length) xs → AtPlaces places xs 0 (windowsAt size s n head-length) → length six ≡ 6 → o₁ ≡ over (six ++ render xs (λ (i : ℕ). 0)) o
+    → ys ≡ paintAll places 0 (windowsAt size s n head-length) (take (length o₁ - 6) (drop 6 o₁))
     → take 6 o₁ ++ (ys ++ drop (length o₁ - 6) (drop 6 o₁)) ≡ over (six ++ render xs (lastByte (windowsAt size s n head-length))) o
-painted size s n xs six o o₁ ys h g l e y =
+painted size s n xs places six o o₁ ys h g a l e y =
     let ws : List Window = windowsAt size s n head-length in
     let r : List ℕ = render xs (λ (i : ℕ). 0) in
     let t : List ℕ = drop (length (six ++ r)) o in
@@ -78,31 +70,24 @@ painted size s n xs six o o₁ ys h g l e y =
     let front : take 6 o₁ ≡ six = ap (take 6) o₁-is ∙ take-at six (r ++ t) 6 l in
     let back : drop 6 o₁ ≡ r ++ t = ap (drop 6) o₁-is ∙ drop-at six (r ++ t) 6 l in
     let p : ys ≡ render xs (lastByte ws) ++ t =
-    y ∙ rw (all, back) (paint-all size ws xs t (λ (i : ℕ). 0) (g .spaced) (windows-fit size s n head-length h) (g .inside)) in
+    y ∙ rw (all, back) (paint-all size places 0 ws xs t (λ (i : ℕ). 0) (g .spaced) (windows-fit size s n head-length h) (g .inside) a) in
     let m : length (six ++ render xs (lastByte ws)) ≡ length (six ++ r) =
     simp (length-append, render-length xs (lastByte ws), render-length xs (λ (i : ℕ). 0)) in
     rw (none, append-nil, front, p, m) (sym (append-assoc six (render xs (lastByte ws)) t))
 
-module _ (size : ℕ) (s : List ℕ) (n : ℕ) (xs o : List ℕ) (end : ℕ) (q : Ready size s n (spansIn xs) end (length o)) where
+module _ (size : ℕ) (s : List ℕ) (n : ℕ) (xs places o : List ℕ) (end : ℕ) (q : Ready size s n (spansIn xs) places end (length o)) where
   abbrev six : List ℕ
   six = preamble ∷ getD s 1 0 ∷ getD s 2 0 ∷ getD s 3 0 ∷ getD s 4 0 ∷ (no-windows - length xs) ∷ []
 
   pub ready-few : length xs ≤ 255
   ready-few = omega (arith, q .few, in-length xs)
 
-  -- places are numbers of two bytes
-  pub ready-small : longOf (spansIn xs) ≤ 65535
-  ready-small = omega (arith, long-within (spansIn xs) size (q .gathered .spaced) (q .gathered .below), q .few, q .small)
-
-  pub ready-rising : (ps : List Span) → ps ≡ placesOf 0 (spansIn xs) → Rising 0 ps
-  ready-rising ps e = rw e (places-rising (spansIn xs) 0 0 0 (q .gathered .spaced) (omega arith))
-
-  module _ (ps : List Span) (o₁ zs ys : List ℕ) (e : ps ≡ placesOf 0 (spansIn xs)) (c : o₁ ≡ sets o 0 six)
+  module _ (o₁ zs ys : List ℕ) (c : o₁ ≡ sets o 0 six)
       (z : zs ≡ over (render (spansIn xs) (λ (i : ℕ). 0)) (take (length o₁ - 6) (drop 6 o₁))) where
     abbrev framed : List ℕ
     framed = take 6 o₁ ++ (zs ++ drop (length o₁ - 6) (drop 6 o₁))
 
-    module _ (y : ys ≡ paintAll (windowsAt size s n head-length) ps (take (length framed - 6) (drop 6 framed))) where
+    module _ (y : ys ≡ paintAll places 0 (windowsAt size s n head-length) (take (length framed - 6) (drop 6 framed))) where
       abbrev left : List ℕ
       left = set (take 6 framed ++ (ys ++ drop (length framed - 6) (drop 6 framed))) end postamble
 
@@ -112,7 +97,7 @@ module _ (size : ℕ) (s : List ℕ) (n : ℕ) (xs o : List ℕ) (end : ℕ) (q 
           let r : List ℕ = render (spansIn xs) (lastByte (windowsAt size s n head-length)) in
           let a : o₁ ≡ over six o = c ∙ copied six o (omega (arith, q .end-is, q .fits)) in
           let b = then-over 6 six (render (spansIn xs) (λ (i : ℕ). 0)) o o₁ zs refl a z in
-          let p = painted size s n (spansIn xs) six o framed ys (q .whole) (q .gathered) refl b (y ∙ rw e) in
+          let p = painted size s n (spansIn xs) places six o framed ys (q .whole) (q .gathered) (q .placed) refl b y in
           let l : end ≡ length (six ++ r) = omega (arith, render-length (spansIn xs) (lastByte (windowsAt size s n head-length)), q .end-is) in
           rw (p, in-length xs) (then-byte (six ++ r) o end postamble l (q .fits))
 

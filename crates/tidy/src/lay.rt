@@ -1,7 +1,5 @@
 // The tidied stream laid into the output: head, frames with empty cells, the windows' data over them in the stream's order, postamble.
-use crate::spans::code;
 use crate::spans::end_of;
-use crate::spans::slot;
 use crate::spans::start_of;
 use cells::copy;
 use chain::paper::*;
@@ -18,7 +16,7 @@ ghost use Rattle.chain.specs.Output.{over};
 ghost use Rattle.lister.specs.Windows.{windowsStop};
 ghost use Rattle.lister.specs.Listing.{head-length};
 ghost use Rattle.tidy.specs.Tidy.{windowsAt, lastByte};
-ghost use Rattle.tidy.specs.Steps.{spansIn, windowBytes, render, longOf, placesOf, Rising, paintAll, laidOut, Ready};
+ghost use Rattle.tidy.specs.Steps.{spansIn, windowBytes, render, longOf, paintAll, laidOut, Ready};
 
 const NULL: u8 = 0x00;
 
@@ -54,10 +52,9 @@ fn empty(start: u16, end: u16, n: usize, out: &mut [u8])
     zeros(n, &mut out[5..]);
 }
 
-// The windows over the spans, all cells 0. In the table the place of its first cell takes the place of each span's end.
-fn frames(xs: &mut [u32], out: &mut [u8])
-    requires { ⌜ (longOf (spansIn (now xs)) ≤ length (now out)) × (longOf (spansIn (now xs)) ≤ 65535) ⌝ }
-    ensures { λ _. ⌜ spansIn (now (xs .exit)) ≡ placesOf 0 (spansIn (now (xs .entry))) ⌝ }
+// The windows over the spans, all cells 0.
+fn frames(xs: &[u32], out: &mut [u8])
+    requires { ⌜ longOf (spansIn (now xs)) ≤ length (now out) ⌝ }
     ensures { λ _. ⌜ now (out .exit) ≡ over (render (spansIn (now (xs .entry))) (λ (i : ℕ). 0)) (now (out .entry)) ⌝ }
 {
     let mut at: usize = 0;
@@ -68,7 +65,6 @@ fn frames(xs: &mut [u32], out: &mut [u8])
         let end = end_of(x);
         let n = width(start, end);
         empty(start, end, n, &mut out[at..]);
-        xs[i] = code(start, (at + 5) as u16);
         at += 5 + n;
         i += 1;
     }
@@ -83,32 +79,40 @@ fn put(at: usize, bytes: &[u8], out: &mut [u8])
     }
 }
 
-// The data of n windows that are known to be whole, in the stream's order, each from where its first cell stands.
-fn paint(size: u16, s: &[u8], n: usize, xs: &[u32], out: &mut [u8])
-    requires { ⌜ (windowsStop size (now s) n head-length .number ≡ done) × Rising 0 (spansIn (now xs)) ⌝ }
-    ensures { λ _. ⌜ now (out .exit) ≡ paintAll (windowsAt size (now (s .entry)) n head-length) (spansIn (now (xs .entry))) (now (out .entry)) ⌝ }
+// The data of n windows that are known to be whole, in the stream's order, each from its place.
+fn paint(size: u16, s: &[u8], n: usize, places: &[u16], out: &mut [u8])
+    requires { ⌜ (windowsStop size (now s) n head-length .number ≡ done) × (n ≤ length (now places)) ⌝ }
+    ensures { λ _. ⌜ now (out .exit) ≡ paintAll (now (places .entry)) 0 (windowsAt size (now (s .entry)) n head-length) (now (out .entry)) ⌝ }
 {
     let mut at = HEAD_LENGTH;
-    let mut left = n;
-    while 0 < left {
+    let mut i: usize = 0;
+    while i < n {
         let w = read_window(size, s, at);
         let first = w.first;
         let next = w.next;
-        put(slot(xs, w.start), &s[first..next], out);
+        put(places[i] as usize, &s[first..next], out);
         at = next;
-        left -= 1;
+        i += 1;
     }
 }
 
 // The whole stream of these spans, which are those of the n windows; end is where the postamble goes.
-pub(crate) fn stream(size: u16, s: &[u8], n: usize, xs: &mut [u32], end: usize, out: &mut [u8])
-    requires { ⌜ Ready size (now s) n (spansIn (now xs)) end (length (now out)) ⌝ }
+pub(crate) fn stream(
+    size: u16,
+    s: &[u8],
+    n: usize,
+    xs: &[u32],
+    places: &[u16],
+    end: usize,
+    out: &mut [u8],
+)
+    requires { ⌜ Ready size (now s) n (spansIn (now xs)) (now places) end (length (now out)) ⌝ }
     ensures { λ _. ⌜ now (out .exit) ≡ over (laidOut (now (s .entry)) (spansIn (now (xs .entry)))
         (lastByte (windowsAt size (now (s .entry)) n head-length))) (now (out .entry)) ⌝ }
 {
     let count = xs.len() as u8;
     copy(out, &[PREAMBLE, s[1], s[2], s[3], s[4], NO_WINDOWS - count]);
     frames(xs, &mut out[6..]);
-    paint(size, s, n, xs, &mut out[6..]);
+    paint(size, s, n, places, &mut out[6..]);
     out[end] = POSTAMBLE;
 }

@@ -14,11 +14,18 @@ ghost use Rattle.tidy.specs.Tidy.{tidied, Tidies};
 ghost use Rattle.tidy.specs.Steps.{ReadWhole, roomNumber};
 
 // The tidied stream of one that was read whole, where it has room.
-fn write(size: u16, s: &[u8], n: usize, table: &mut [u32], out: &mut [u8]) -> Written
-    requires { ⌜ ReadWhole size (now s) n (length (now table)) ⌝ }
+fn write(
+    size: u16,
+    s: &[u8],
+    n: usize,
+    table: &mut [u32],
+    places: &mut [u16],
+    out: &mut [u8],
+) -> Written
+    requires { ⌜ ReadWhole size (now s) n (length (now table)) (length (now places)) ⌝ }
     ensures { λ r. ⌜ Writes (roomNumber (length (tidied size (now (s .entry)))) (length (now (out .entry)))) (tidied size (now (s .entry))) (now (out .entry)) r (now (out .exit)) ⌝ }
 {
-    let m = spans::gather(size, s, &mut table[..n]);
+    let m = spans::gather(size, s, &mut table[..n], places);
     let end = 6 + spans::long(&table[..m]);
     if out.len() <= end {
         return Written {
@@ -26,7 +33,7 @@ fn write(size: u16, s: &[u8], n: usize, table: &mut [u32], out: &mut [u8]) -> Wr
             length: 0,
         };
     }
-    lay::stream(size, s, n, &mut table[..m], end, out);
+    lay::stream(size, s, n, &table[..m], places, end, out);
     Written {
         number: DONE,
         length: end + 1,
@@ -52,6 +59,7 @@ pub fn tidy(kind: u8, s: &[u8], out: &mut [u8]) -> Written
         };
     }
     let mut table = [0u32; 255];
+    let mut places = [0u16; 256];
     let n = (255 - s[5]) as usize;
-    write(size, s, n, &mut table, out)
+    write(size, s, n, &mut table, &mut places, out)
 }

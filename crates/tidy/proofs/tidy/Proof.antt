@@ -25,16 +25,16 @@ sub-n c =
 
 write-requires : tie.Need-write-requires
 write-requires c κs =
-    let a = c .before .before .before .before .before .before .before .before .before .before .args in
-    read-whole (a .kind) (a .s .now) (a .out .now) (c .before .before .before .before .before .before .before .size-of .result) (c .before .before .before .before .before .read-stream .result) (c .before .before .before .before .before .before .before .size-of .ensures) (c .before .before .before .before .before .read-stream .ensures) (c .before .before .before .before .before .before .if1 .left) (c .before .before .before .if2 .left) _ (search needs)
+    let a = c .before .before .before .before .before .before .before .before .before .before .before .args in
+    read-whole (a .kind) (a .s .now) (a .out .now) (c .before .before .before .before .before .before .before .before .size-of .result) (c .before .before .before .before .before .before .read-stream .result) (c .before .before .before .before .before .before .before .before .size-of .ensures) (c .before .before .before .before .before .before .read-stream .ensures) (c .before .before .before .before .before .before .before .if1 .left) (c .before .before .before .before .if2 .left) _ _ (search needs) (search needs)
 
 returns-3 : tie.Need-returns-3
 returns-3 c =
-    let a = c .before .before .before .before .before .before .before .before .before .before .before .before .before .before .args in
-    all (a .kind) (a .s .now) (a .out .now) (c .before .before .before .before .before .before .before .before .before .before .before .size-of .result) (c .before .before .before .before .before .before .before .before .before .read-stream .result) (c .before .before .before .before .before .before .before .before .before .before .before .size-of .ensures) (c .before .before .before .before .before .before .before .before .before .read-stream .ensures) (c .before .before .before .before .before .before .before .before .before .before .if1 .left) (c .before .before .before .before .before .before .before .if2 .left) (c .before .before .before .write .result) _ (c .before .before .before .write .ensures)
+    let a = c .before .before .before .before .before .before .before .before .before .before .before .before .before .before .before .before .args in
+    all (a .kind) (a .s .now) (a .out .now) (c .before .before .before .before .before .before .before .before .before .before .before .before .before .size-of .result) (c .before .before .before .before .before .before .before .before .before .before .before .read-stream .result) (c .before .before .before .before .before .before .before .before .before .before .before .before .before .size-of .ensures) (c .before .before .before .before .before .before .before .before .before .before .before .read-stream .ensures) (c .before .before .before .before .before .before .before .before .before .before .before .before .if1 .left) (c .before .before .before .before .before .before .before .before .before .if2 .left) (c .before .before .before .before .write .result) _ (c .before .before .before .before .write .ensures)
 
 pub tidy-spec : {M : Type 1} → statement M
 tidy-spec =
     tie.close
     (tie.spec (search needs) returns (search needs) returns-2 shared-slice-read-n sub-n (search needs) (search needs)
-    write-requires (search needs) returns-3)
+    (search needs) write-requires (search needs) returns-3)
