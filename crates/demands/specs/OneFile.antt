@@ -93,6 +93,7 @@ pub record WellTidied (l : Loader) {c : Chain} {s : List ℕ} {a : Accepted c s}
   pub loads : Done (tidying l f) → (m : List ℕ) → Device c m → (x : Sending first-mode s) (z : Sending first-mode (offered (tidying l f)))
       → SameLoad l c m x z
 
+-- on whatever device there is: here and below m is any memory that it has now
 abbrev pub TidiesAll : Loader → Type 0
 TidiesAll l = (c : Chain) (m s : List ℕ) → Device c m → (a : Accepted c s) (f : TidyFile a) → WellTidied l f
 

@@ -1,4 +1,4 @@
--- For the contracts of private helpers alone, no promise cites it. Windows as the code keeps them, by start and index, put in order and joined to
+-- For the contracts of private helpers, and for laws; no promise cites it. Windows as the code keeps them, by start and index, put in order and joined to
 -- spans, one number each, start * 65536 + end; these framed in the output, and the windows' data laid over the frames. Assumes nothing.
 use Prim.Native.Nat.{ℕ, suc, _+_, _-_, _*_, _/_, _%_, _≤_, _<_}
 use mathlib.Core.Bool.{Bool, false, _||_}
