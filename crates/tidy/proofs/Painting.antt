@@ -7,7 +7,7 @@ use mathlib.Core.List.{List, [], _∷_, _++_, append-assoc}
 use native.Mathlib.Omega.{arith}
 use borrow.Author.Tests.{leb-true, leb-false}
 use lib.Dec.{leb}
-use lib.Seq.{sets, take-all}
+use lib.Seq.{sets}
 use Rattle.chain.proofs.ByCases.{by-test}
 use Rattle.chain.specs.Rules.{pick}
 use Rattle.chain.specs.Window.{widthOf}
@@ -17,8 +17,8 @@ use Rattle.grammar.specs.Fits.{Fits, AllFit}
 use Rattle.tidy.specs.Spans.{Span, has, valuesOf}
 use Rattle.tidy.specs.Steps.{Spaced, Inside, AllInside, windowBytes, render, slotOf, AtPlaces, paintAll}
 use Rattle.tidy.proofs.HasCell.{has-yes, has-below, has-above}
-use Rattle.tidy.proofs.Values.{sets-after, sets-before, values-length, values-same, values-bytes, values-laid}
-use Rattle.tidy.proofs.WindowEffect.{byteFor, windows-more}
+use Rattle.tidy.proofs.Values.{sets-after, sets-before, values-length, values-same, values-laid}
+use Rattle.tidy.proofs.WindowEffect.{byteFor, window-values, windows-more}
 
 -- cells inside of spans are not below them
 inside-above : (xs : List Span) (l a b : ℕ) → a ≤ b → Spaced l xs → Inside xs a b → l ≤ a
@@ -56,13 +56,7 @@ module _ (size : ℕ) (w : Window) (f : Fits size w) (v : ℕ → ℕ) where
   above i h = rw (has-above a b i h)
 
   data-is : w .bytes ≡ valuesOf laid (widthOf a b) a
-  data-is =
-      sym (take-all (widthOf a b) (w .bytes) (omega (arith, f .full)))
-      ∙ values-bytes (w .bytes) (widthOf a b) 0 laid a (omega (arith, f .full))
-      (λ j h.
-      let e : a + j - a ≡ j = omega arith in
-      let z : 0 + j ≡ j = omega arith in
-      rw (has-yes a b (a + j) (omega arith) (omega (arith, f .order)), e, z))
+  data-is = sym (window-values size w laid f (λ i h g. rw (has-yes a b i h g)))
 
   -- over the cells of a span that has its own
   over : (x : Span) → x .start ≤ a → b ≤ x .end

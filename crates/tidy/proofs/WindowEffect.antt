@@ -7,15 +7,18 @@ use mathlib.Core.List.{List, [], _∷_}
 use native.Mathlib.Omega.{arith}
 use borrow.Author.Tests.{eq-eqb, ne-eqb}
 use lib.ListN.{length, getD}
+use lib.Seq.{take-all}
 use Rattle.chain.proofs.ByCases.{by-test, by-eq}
 use Rattle.chain.specs.Rules.{pick}
+use Rattle.chain.specs.Window.{widthOf}
 use Rattle.grammar.specs.Sent.{memory, lastTo}
 use Rattle.grammar.specs.Stream.{Window, dataSent, windowsSent}
 use Rattle.grammar.specs.Fits.{Fits, AllFit}
 use Rattle.grammar.proofs.WindowCells.{last-append, data-keeps}
-use Rattle.tidy.specs.Spans.{has, covered}
+use Rattle.tidy.specs.Spans.{has, covered, valuesOf}
 use Rattle.tidy.specs.Tidy.{lastByte}
 use Rattle.tidy.proofs.HasCell.{has-true, has-false, has-above}
+use Rattle.tidy.proofs.Values.{values-bytes}
 
 -- ---- one window
 
@@ -53,6 +56,18 @@ window-last size w i old f =
     rw e
     (data-keeps (w .start) (w .bytes) i old
     (λ p q. ⊎-elim (λ h. omega arith) (λ h. omega (arith, f .order, f .full)) (has-false (w .start) (w .end) i e)))))
+
+-- its bytes as the values of its cells
+pub window-values : (size : ℕ) (w : Window) (v : ℕ → ℕ) → Fits size w → ((i : ℕ) → w .start ≤ i → i ≤ w .end → v i ≡ byteFor w i)
+    → valuesOf v (widthOf (w .start) (w .end)) (w .start) ≡ w .bytes
+window-values size w v f e =
+    let n : ℕ = widthOf (w .start) (w .end) in
+    let k : length (w .bytes) ≡ n = f .full ∙ omega arith in
+    sym (values-bytes (w .bytes) n 0 v (w .start) (omega arith)
+    (λ j h.
+    let z : w .start + j - w .start ≡ 0 + j = omega arith in
+    e (w .start + j) (omega arith) (omega (arith, f .order)) ∙ ap (λ (q : ℕ). getD (w .bytes) q 0) z))
+    ∙ take-all n (w .bytes) (omega arith)
 
 -- ---- windows one after another
 

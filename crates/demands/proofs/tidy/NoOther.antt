@@ -1,13 +1,11 @@
 -- The claims leave a tidier no other bytes: whatever tidier a loader has, if what it writes has the shape and loads as the stream does, it writes the
 -- tidied stream, for windows in order with gaps are tidied to themselves. So it gives one file to one meaning, and tidying twice changes nothing.
 -- Assumes nothing.
-use Prim.Native.Nat.{ℕ, _+_, _-_, _≤_, _<_}
+use Prim.Native.Nat.{ℕ, _+_, _≤_, _<_}
 use mathlib.Core.Bool.{false}
 use mathlib.Core.Path.{_≡_, refl, ap, sym, _∙_}
 use mathlib.Core.List.{List, [], _∷_, map}
 use native.Mathlib.Omega.{arith}
-use lib.ListN.{length, getD}
-use lib.Seq.{take-all}
 use Rattle.chain.specs.declared.Chain.{Chain}
 use Rattle.chain.specs.Paper.{first-mode}
 use Rattle.chain.specs.Kinds.{sizeAt}
@@ -16,13 +14,13 @@ use Rattle.grammar.specs.Sent.{bytesOf}
 use Rattle.grammar.specs.Stream.{Window, Section, streamSent}
 use Rattle.grammar.specs.Fits.{Fits, AllFit}
 use Rattle.grammar.specs.Tables.{nulled}
-use Rattle.tidy.specs.Spans.{Span, span, covered, valuesOf}
-use Rattle.tidy.specs.Steps.{Spaced, Below, spanned}
+use Rattle.tidy.specs.Spans.{covered, valuesOf}
+use Rattle.tidy.specs.Steps.{boundsOf, Spaced}
 use Rattle.tidy.specs.Tidy.{lastByte, windowOver, tidyWindows}
 use Rattle.tidy.proofs.HasCell.{has-yes, has-above, spanned-low}
-use Rattle.tidy.proofs.Values.{values-bytes}
 use Rattle.tidy.proofs.Canon.{spans-are}
-use Rattle.tidy.proofs.WindowEffect.{byteFor, windows-more, windows-last}
+use Rattle.tidy.proofs.Gathering.{bounds-below, bounds-cells}
+use Rattle.tidy.proofs.WindowEffect.{byteFor, window-values, windows-more, windows-last}
 use Rattle.demands.specs.Loader.{Loader, offered}
 use Rattle.demands.specs.Demand2.{Demand2a}
 use Rattle.demands.specs.Patches.{Device}
@@ -33,33 +31,21 @@ use Rattle.demands.proofs.tidy.OneMeaning.{one-file, one-meaning}
 
 -- ---- the spans of windows in order with gaps
 
-abbrev spanOf : Window → Span
-spanOf w = span (w .start) (w .end)
-
-gaps-spaced : (size l : ℕ) (w : Window) (ws : List Window) → l ≤ w .start → AllFit size (w ∷ ws) → Gaps (w ∷ ws) → Spaced l (map spanOf (w ∷ ws))
+gaps-spaced : (size l : ℕ) (w : Window) (ws : List Window) → l ≤ w .start → AllFit size (w ∷ ws) → Gaps (w ∷ ws) → Spaced l (boundsOf (w ∷ ws))
 gaps-spaced size l w [] h f g = (h, f .0 .order, tt)
 gaps-spaced size l w (x ∷ xs) h f g = (h, f .0 .order, gaps-spaced size (w .end + 2) x xs (g .0) (f .1) (g .1))
 
-spaced : (size : ℕ) (ws : List Window) → AllFit size ws → Gaps ws → Spaced 0 (map spanOf ws)
+spaced : (size : ℕ) (ws : List Window) → AllFit size ws → Gaps ws → Spaced 0 (boundsOf ws)
 spaced size [] f g = tt
 spaced size (w ∷ ws) f g = gaps-spaced size 0 w ws (omega arith) f g
-
-below : (size : ℕ) (ws : List Window) → AllFit size ws → Below size (map spanOf ws)
-below size [] f = tt
-below size (w ∷ ws) f = (f .0 .inside, below size ws (f .1))
-
-spanned-is : (ws : List Window) (i : ℕ) → spanned (map spanOf ws) i ≡ covered ws i
-unfolding covered spanned
-spanned-is [] i = refl
-spanned-is (w ∷ ws) i = rw (spanned-is ws i)
 
 -- ---- their last bytes are their own
 
 -- of the first, where the others have no cell up to its end
-first-byte : (size : ℕ) (w : Window) (ws : List Window) → AllFit size (w ∷ ws) → Spaced (w .end + 2) (map spanOf ws)
+first-byte : (size : ℕ) (w : Window) (ws : List Window) → AllFit size (w ∷ ws) → Spaced (w .end + 2) (boundsOf ws)
     → (i : ℕ) → w .start ≤ i → i ≤ w .end → lastByte (w ∷ ws) i ≡ byteFor w i
 first-byte size w ws f s i h g =
-    let none : covered ws i ≡ false = sym (spanned-is ws i) ∙ spanned-low (map spanOf ws) (w .end + 2) i s (omega arith) in
+    let none : covered ws i ≡ false = sym (bounds-cells ws i) ∙ spanned-low (boundsOf ws) (w .end + 2) i s (omega arith) in
     windows-more size w ws i 0 (f .0)
     ∙ rw (has-yes (w .start) (w .end) i h g) (windows-last size ws i (byteFor w i) (f .1) ∙ rw none)
 
@@ -67,24 +53,13 @@ first-byte size w ws f s i h g =
 later-byte : (size : ℕ) (w : Window) (ws : List Window) → Fits size w → (i : ℕ) → w .end < i → lastByte (w ∷ ws) i ≡ lastByte ws i
 later-byte size w ws f i h = windows-more size w ws i 0 f ∙ rw (has-above (w .start) (w .end) i h)
 
-window-values : (size : ℕ) (w : Window) (v : ℕ → ℕ) → Fits size w → ((i : ℕ) → w .start ≤ i → i ≤ w .end → v i ≡ byteFor w i)
-    → valuesOf v (widthOf (w .start) (w .end)) (w .start) ≡ w .bytes
-window-values size w v f e =
-    let n : ℕ = widthOf (w .start) (w .end) in
-    let k : length (w .bytes) ≡ n = f .full ∙ omega arith in
-    sym (values-bytes (w .bytes) n 0 v (w .start) (omega arith)
-    (λ j h.
-    let z : w .start + j - w .start ≡ 0 + j = omega arith in
-    e (w .start + j) (omega arith) (omega (arith, f .order)) ∙ ap (λ (q : ℕ). getD (w .bytes) q 0) z))
-    ∙ take-all n (w .bytes) (omega arith)
-
-own-windows : (size l : ℕ) (ws : List Window) (v : ℕ → ℕ) → AllFit size ws → Spaced l (map spanOf ws) → ((i : ℕ) → l ≤ i → v i ≡ lastByte ws i)
-    → map (windowOver v) (map spanOf ws) ≡ nulled ws
+own-windows : (size l : ℕ) (ws : List Window) (v : ℕ → ℕ) → AllFit size ws → Spaced l (boundsOf ws) → ((i : ℕ) → l ≤ i → v i ≡ lastByte ws i)
+    → map (windowOver v) (boundsOf ws) ≡ nulled ws
 own-windows size l [] v f s e = refl
 own-windows size l (w ∷ ws) v f s e =
     let here : valuesOf v (widthOf (w .start) (w .end)) (w .start) ≡ w .bytes =
     window-values size w v (f .0) (λ i h g. e i (omega (arith, s .0)) ∙ first-byte size w ws f (s .2) i h g) in
-    let later : map (windowOver v) (map spanOf ws) ≡ nulled ws =
+    let later : map (windowOver v) (boundsOf ws) ≡ nulled ws =
     own-windows size (w .end + 2) ws v (f .1) (s .2)
     (λ i h. e i (omega (arith, s .0, s .1)) ∙ later-byte size w ws (f .0) i (omega arith)) in
     rw (here, later)
@@ -94,7 +69,7 @@ pub tidy-already : (size : ℕ) (ws : List Window) → AllFit size ws → Gaps w
 unfolding tidyWindows
 tidy-already size ws f g =
     let s = spaced size ws f g in
-    ap (map (windowOver (lastByte ws))) (spans-are (map spanOf ws) (covered ws) size s (below size ws f) (spanned-is ws))
+    ap (map (windowOver (lastByte ws))) (spans-are (boundsOf ws) (covered ws) size s (bounds-below size ws f) (bounds-cells ws))
     ∙ own-windows size 0 ws (lastByte ws) f s (λ i _. refl)
 
 -- ---- a stream of the shape
