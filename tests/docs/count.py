@@ -8,7 +8,7 @@ import sys
 
 DOC = "docs/READING.md"
 BEGIN, END = "<!-- counted by tests/docs/count.py -->\n", "<!-- end of count -->\n"
-CALLS = ["chain", "cells", "awaited", "machine", "saved", "closing", "hunt", "grammar", "writer", "lister", "tidy"]
+CALLS = ["chain", "cells", "awaited", "machine", "saved", "closing", "hunt", "grammar", "writer", "reader", "lister", "tidy"]
 REST = ["at6000", "listing", "demands"]
 PARTS = [
     ("no promise: contracts of private functions", ["chain/ByRow", "machine/Block", "closing/Put", "tidy/InOrder", "tidy/Steps", "listing/ListedTo"]),

@@ -17,7 +17,8 @@ use Rattle.hunt.specs.declared.Hunted.{Hunted}
 use Rattle.hunt.specs.Hunt.{huntOf, huntOut}
 use Rattle.writer.specs.Write.{writeOf, writeOutput}
 use Rattle.lister.specs.declared.Listed.{Listed}
-use Rattle.lister.specs.Listing.{preambleAt, listedOf, listed, Lists}
+use Rattle.reader.specs.Stream.{preambleAt}
+use Rattle.lister.specs.Listing.{listedOf, listed, Lists}
 use Rattle.tidy.specs.Tidy.{tidyOf, tidyOutput}
 use Rattle.chain.specs.Bytes.{Bytes}
 use Rattle.chain.specs.Table.{Table, chainTable, openTable, Running}

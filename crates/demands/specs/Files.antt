@@ -12,7 +12,7 @@ use Rattle.chain.specs.Rules.{pick}
 use Rattle.chain.specs.Kinds.{sizeOf}
 use Rattle.chain.specs.Calls.{noChain}
 use Rattle.writer.specs.Stream.{leadIn, sectionOf}
-use Rattle.lister.specs.Listing.{preambleAt}
+use Rattle.reader.specs.Stream.{preambleAt}
 use Rattle.demands.specs.Loader.{Loader, AfterWrite, offered, AfterList, Idle, Mode}
 use Rattle.demands.specs.Demand2.{ran, Loads}
 use Rattle.chain.specs.Bytes.{Bytes}

@@ -9,7 +9,7 @@ use Rattle.chain.specs.Paper.{writing, first-mode, two-preambles, bad-chain, ba
 use Rattle.chain.specs.Kinds.{sizeOf}
 use Rattle.chain.specs.Calls.{newOf}
 use Rattle.machine.specs.Calls.{startOf, sliceOf}
-use Rattle.lister.specs.Listing.{preambleAt, countAt}
+use Rattle.reader.specs.Stream.{preambleAt, countAt}
 use Rattle.tidy.specs.Tidy.{tidied}
 use Rattle.chain.specs.WellFormed.{Known, Between}
 use Rattle.chain.specs.Table.{Claim, _when_, NoMode}

@@ -4,7 +4,8 @@ use lib.Seq.{sets}
 use Rattle.machine.specs.Calls.{startOf, sliceOf, sliceMemory}
 use Rattle.closing.specs.Calls.{closingOf, closingOutput}
 use Rattle.writer.specs.Write.{writeOf, writeOutput}
-use Rattle.lister.specs.Listing.{preambleAt, listed, listing, listedOf, startsOf, endsOf, offsetsOf}
+use Rattle.reader.specs.Stream.{preambleAt}
+use Rattle.lister.specs.Listing.{listed, listing, listedOf, startsOf, endsOf, offsetsOf}
 use Rattle.hunt.specs.Hunt.{huntOf, huntOut}
 use Rattle.tidy.specs.Tidy.{tidyOf, tidyOutput}
 use Rattle.demands.specs.Loader.{Loader}

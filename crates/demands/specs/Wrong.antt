@@ -24,9 +24,10 @@ use Rattle.hunt.specs.Hunt.{foundAt}
 use Rattle.grammar.specs.Sent.{bytesOf}
 use Rattle.grammar.specs.Stream.{Window, streamSent}
 use Rattle.writer.specs.Stream.{sectionOf}
-use Rattle.lister.specs.Listing.{controlAt, streamStop}
+use Rattle.reader.specs.Stream.{controlAt, streamStop}
 use Rattle.tidy.specs.Spans.{Span, span, has, covered}
-use Rattle.tidy.specs.Tidy.{givenOf, lastByte, windowOver, tidyWindows, tidyRules}
+use Rattle.reader.specs.Given.{givenOf}
+use Rattle.tidy.specs.Tidy.{lastByte, windowOver, tidyWindows, tidyRules}
 use Rattle.demands.specs.Loader.{Loader, AfterSlice, with·slice, with·closing, with·list, with·hunt, with·tidy}
 use Rattle.demands.specs.Ours.{ours}
 

@@ -6,8 +6,9 @@ use lib.ListN.{take, replicate}
 use Rattle.chain.specs.Paper.{preamble, done, too-short, more}
 use Rattle.chain.specs.Kinds.{sizeOf}
 use Rattle.lister.specs.declared.Listed.{Listed}
-use Rattle.lister.specs.Windows.{windowStop, readWindowOf, windowsStop, windowsOf}
-use Rattle.lister.specs.Listing.{preambleAt, headStop, checkStop, streamStop, listStop, listedOf, listingOf, Lists}
+use Rattle.reader.specs.Windows.{windowStop, readWindowOf, windowsStop, windowsOf}
+use Rattle.reader.specs.Stream.{preambleAt, headStop, checkStop, streamStop}
+use Rattle.lister.specs.Listing.{listStop, listedOf, listingOf, Lists}
 
 abbrev pub streamA : List ℕ
 streamA = 0xb2 ∷ 0 ∷ 0 ∷ 0 ∷ 0 ∷ 0xfe ∷ 0 ∷ 0 ∷ 0x09 ∷ 0 ∷ 0x0b ∷ 0x11 ∷ 0x22 ∷ 0x33 ∷ 0x4d ∷ []

@@ -1,10 +1,8 @@
--- Two results that meet the lister's promise agree, and two readings of a window. Assumes nothing.
+-- Two results that meet the lister's promise agree. Assumes nothing.
 use Prim.Native.Nat.{ℕ}
 use mathlib.Core.Path.{_≡_, sym, _∙_}
 use mathlib.Core.List.{List}
 use Rattle.lister.specs.declared.Listed.{Listed}
-use Rattle.lister.specs.declared.window.ReadWindow.{ReadWindow}
-use Rattle.lister.specs.Windows.{readWindowOf}
 use Rattle.lister.specs.Listing.{Lists}
 
 pub only-list : (kind mode : ℕ) (s starts ends offsets : List ℕ) (r q : Listed) (a b c x y z : List ℕ)
@@ -12,6 +10,3 @@ pub only-list : (kind mode : ℕ) (s starts ends offsets : List ℕ) (r q : List
     → (r ≡ q) × (a ≡ x) × (b ≡ y) × (c ≡ z)
 only-list kind mode s starts ends offsets r q a b c x y z f g =
     (f .answer ∙ sym (g .answer), f .starts-left ∙ sym (g .starts-left), f .ends-left ∙ sym (g .ends-left), f .offsets-left ∙ sym (g .offsets-left))
-
-pub only-window : (size : ℕ) (s : List ℕ) (at : ℕ) (r q : ReadWindow) → r ≡ readWindowOf size s at → q ≡ readWindowOf size s at → r ≡ q
-only-window size s at r q f g = f ∙ sym g

@@ -12,13 +12,14 @@ use Rattle.cells.proofs.Over.{sets-front}
 use Rattle.chain.proofs.ByCases.{by-test}
 use Rattle.chain.specs.Paper.{done}
 use Rattle.chain.specs.Kinds.{sizeOf}
-use Rattle.lister.specs.declared.stream.Stop.{Stop}
-use Rattle.lister.specs.declared.window.ReadWindow.{ReadWindow}
+use Rattle.reader.specs.declared.stream.Stop.{Stop}
+use Rattle.reader.specs.declared.window.ReadWindow.{ReadWindow}
 use Rattle.lister.specs.declared.Listed.{Listed}
-use Rattle.lister.specs.Stops.{ifDone}
-use Rattle.lister.specs.Windows.{readWindowOf, windowsStop, windowsOf}
-use Rattle.lister.specs.Listing.{preambleAt, countAt, listStop, listedOf, listingOf, startsOf, endsOf, offsetsOf, listed, listing, Lists}
-use Rattle.lister.proofs.Windows.{Whole, windows-first, windows-list-none, windows-length, next-is, reach}
+use Rattle.reader.specs.Stops.{ifDone}
+use Rattle.reader.specs.Windows.{readWindowOf, windowsStop, windowsOf}
+use Rattle.reader.specs.Stream.{preambleAt, countAt}
+use Rattle.lister.specs.Listing.{listStop, listedOf, listingOf, startsOf, endsOf, offsetsOf, listed, listing, Lists}
+use Rattle.reader.proofs.Windows.{Whole, windows-first, windows-list-none, windows-length, next-is, reach}
 use Rattle.lister.proofs.Listings.{list-done}
 
 -- what is left to write from i on gives the whole table

@@ -1,22 +1,20 @@
 // The window lister: the windows of a stream for one freshly reset device.
-pub mod stream;
-pub mod window;
-
-use crate::stream::HEAD_LENGTH;
-use crate::stream::Stop;
-use crate::stream::preamble_at;
-use crate::stream::read_stream;
-use crate::window::ReadWindow;
 use chain::kinds::size_of;
 use chain::paper::*;
 use chain::window::pair;
+use reader::stream::HEAD_LENGTH;
+use reader::stream::Stop;
+use reader::stream::preamble_at;
+use reader::stream::read_stream;
+use reader::window::ReadWindow;
 ghost use mathlib.Core.Path.{_≡_};
 ghost use Prim.Native.Nat.{_+_, _^_, _≤_, _<_};
 ghost use lib.ListN.{length};
 ghost use lib.Seq.{sets};
 ghost use Rattle.chain.specs.Paper.{done};
-ghost use Rattle.lister.specs.Windows.{startAt, endAt, firstAt, nextAt, windowsStop, windowsOf};
-ghost use Rattle.lister.specs.Listing.{head-length, listStop, listedOf, startsOf, endsOf, offsetsOf, Lists};
+ghost use Rattle.reader.specs.Windows.{startAt, endAt, firstAt, nextAt, windowsStop, windowsOf};
+ghost use Rattle.reader.specs.Stream.{head-length};
+ghost use Rattle.lister.specs.Listing.{listStop, listedOf, startsOf, endsOf, offsetsOf, Lists};
 
 // All but the number and the bytes taken are 0 unless the number is 0.
 #[repr(C)]

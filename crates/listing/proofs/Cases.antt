@@ -5,8 +5,9 @@ use mathlib.Core.List.{List, [], _∷_, _++_}
 use Rattle.chain.specs.Kinds.{sizeOf}
 use Rattle.hunt.specs.Bits.{bitAt, bitsFrom, byteAt, bytesFrom, wholeFrom, leftFrom}
 use Rattle.hunt.specs.Hunt.{beginsAt, firstFrom, foundAt, huntedBytes, huntNumber, huntOf}
-use Rattle.lister.specs.Windows.{windowStop, readWindowOf, windowsStop, windowsOf}
-use Rattle.lister.specs.Listing.{preambleAt, headStop, checkStop, streamStop, listStop, listingOf}
+use Rattle.reader.specs.Windows.{windowStop, readWindowOf, windowsStop, windowsOf}
+use Rattle.reader.specs.Stream.{preambleAt, headStop, checkStop, streamStop}
+use Rattle.lister.specs.Listing.{listStop, listingOf}
 use Rattle.listing.specs.Lines.{digitsWithin, decimalOf, numbersOf}
 use Rattle.listing.specs.Program.{programStop, windowLines, linesOf, programLines, textOf}
 

@@ -5,9 +5,10 @@ use mathlib.Core.List.{List}
 use native.Mathlib.Omega.{arith}
 use lib.ListN.{length, take, drop, length-map}
 use lib.Seq.{take-at}
-use Rattle.lister.specs.declared.window.ReadWindow.{ReadWindow}
+use Rattle.reader.specs.declared.window.ReadWindow.{ReadWindow}
 use Rattle.lister.specs.declared.Listed.{Listed}
-use Rattle.lister.specs.Listing.{preambleAt, listedOf, startsOf, endsOf, listed, listing, Lists}
+use Rattle.reader.specs.Stream.{preambleAt}
+use Rattle.lister.specs.Listing.{listedOf, startsOf, endsOf, listed, listing, Lists}
 use Rattle.lister.proofs.Tables.{lists-leave}
 use Rattle.listing.specs.declared.text.Listing.{Listing}
 use Rattle.listing.specs.Lines.{Puts}

@@ -13,7 +13,7 @@ use Rattle.chain.specs.Table.{NoMode}
 use Rattle.chain.proofs.BadChain.{m-known, m-unknown}
 use Rattle.chain.proofs.Means.{said, reads}
 use Rattle.hunt.specs.Hunt.{foundAt, nowhere}
-use Rattle.lister.specs.Stops.{stop}
+use Rattle.reader.specs.Stops.{stop}
 use Rattle.listing.specs.Program.{serial, givenOf, listerStop, programStop}
 
 pub record ProgramNumbers (kind mode : ℕ) (s : List ℕ) : Type 0 where

@@ -11,12 +11,13 @@ use Rattle.chain.specs.Paper.{preamble, postamble, first-mode, two-preambles, d
 use Rattle.chain.specs.Rules.{pick, from}
 use Rattle.chain.specs.Kinds.{sizeOf}
 use Rattle.hunt.specs.Hunt.{nowhere, foundAt}
-use Rattle.lister.specs.declared.stream.Stop.{Stop}
-use Rattle.lister.specs.Stops.{stop, _then_}
-use Rattle.lister.specs.Windows.{windowStop, windowsStop}
-use Rattle.lister.specs.Listing.{preambleAt, controlAt, countAt, headStop, checkStop, streamStop, listStop}
+use Rattle.reader.specs.declared.stream.Stop.{Stop}
+use Rattle.reader.specs.Stops.{stop, _then_}
+use Rattle.reader.specs.Windows.{windowStop, windowsStop}
+use Rattle.reader.specs.Stream.{preambleAt, controlAt, countAt, headStop, checkStop, streamStop}
+use Rattle.lister.specs.Listing.{listStop}
 use Rattle.chain.proofs.ByCases.{by-test}
-use Rattle.lister.proofs.Windows.{ways}
+use Rattle.reader.proofs.Windows.{ways}
 use Rattle.listing.specs.Program.{most-windows, serial, givenOf, listerStop, programStop}
 
 abbrev pub printed : List ℕ

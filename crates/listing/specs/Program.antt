@@ -9,10 +9,11 @@ use Rattle.chain.specs.Paper.{first-mode, serial-external, serial-internal, two
 use Rattle.chain.specs.Rules.{pick, from}
 use Rattle.chain.specs.Kinds.{sizeOf}
 use Rattle.hunt.specs.Hunt.{nowhere, foundAt, huntedBytes, huntOf}
-use Rattle.lister.specs.declared.stream.Stop.{Stop}
-use Rattle.lister.specs.declared.window.ReadWindow.{ReadWindow}
-use Rattle.lister.specs.Stops.{Row, _gives_after_, firstStop}
-use Rattle.lister.specs.Listing.{preambleAt, listStop, listingOf, startsOf, endsOf}
+use Rattle.reader.specs.declared.stream.Stop.{Stop}
+use Rattle.reader.specs.declared.window.ReadWindow.{ReadWindow}
+use Rattle.reader.specs.Stops.{Row, _gives_after_, firstStop}
+use Rattle.reader.specs.Stream.{preambleAt}
+use Rattle.lister.specs.Listing.{listStop, listingOf, startsOf, endsOf}
 use Rattle.listing.specs.Lines.{letter·A, letter·L, letter·W, lineOf}
 
 -- bytes of input in all, and windows that a stream can have

@@ -13,11 +13,12 @@ use Rattle.chain.specs.Paper.{first-mode, done, bad-chain, too-short}
 use Rattle.chain.specs.Kinds.{sizeOf}
 use Rattle.chain.specs.Output.{over, Writes}
 use Rattle.chain.proofs.Sizes.{size-most}
-use Rattle.lister.specs.declared.stream.Stop.{Stop}
-use Rattle.lister.specs.Windows.{windowsStop}
-use Rattle.lister.specs.Listing.{preambleAt, head-length, countAt, streamStop}
-use Rattle.lister.proofs.Listings.{stream-done}
-use Rattle.tidy.specs.Tidy.{windowsAt, lastByte, tidied, tidyNumber, Tidies}
+use Rattle.reader.specs.declared.stream.Stop.{Stop}
+use Rattle.reader.specs.Windows.{windowsStop}
+use Rattle.reader.specs.Stream.{preambleAt, head-length, countAt, streamStop}
+use Rattle.reader.proofs.Streams.{stream-done}
+use Rattle.reader.specs.Given.{windowsAt}
+use Rattle.tidy.specs.Tidy.{lastByte, tidied, tidyNumber, Tidies}
 use Rattle.tidy.specs.Steps.{spansIn, Gathered, longOf, AtPlaces, laidOut, Ready, ReadWhole, roomNumber}
 use Rattle.tidy.proofs.Lengths.{in-length}
 use Rattle.tidy.proofs.Whole.{laid-is, laid-length}

@@ -7,11 +7,11 @@ use native.Mathlib.Numerals.{add-one}
 use lib.ListN.{length, take, set, length-set}
 use lib.Seq.{take-suc-set, take-all}
 use Rattle.chain.specs.Paper.{done}
-use Rattle.lister.specs.declared.window.ReadWindow.{ReadWindow}
-use Rattle.lister.specs.Windows.{readWindowOf, windowsStop}
-use Rattle.lister.specs.Listing.{head-length}
-use Rattle.lister.proofs.Windows.{windows-first, windows-list-none}
-use Rattle.tidy.specs.Tidy.{windowsAt}
+use Rattle.reader.specs.declared.window.ReadWindow.{ReadWindow}
+use Rattle.reader.specs.Windows.{readWindowOf, windowsStop}
+use Rattle.reader.specs.Stream.{head-length}
+use Rattle.reader.proofs.Windows.{windows-first, windows-list-none}
+use Rattle.reader.specs.Given.{windowsAt}
 use Rattle.tidy.specs.Steps.{keysOf, endsOf}
 
 module _ (size : ℕ) (s : List ℕ) (n : ℕ) where

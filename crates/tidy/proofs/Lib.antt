@@ -9,7 +9,6 @@ pub mod Passing
 pub mod Joining
 pub mod AnySpan
 pub mod Indexes
-pub mod Given
 pub mod Lengths
 pub mod Collecting
 pub mod JoinTurns

@@ -11,14 +11,15 @@ use Rattle.chain.specs.Output.{over}
 use Rattle.grammar.specs.Sent.{frame, bytesOf}
 use Rattle.grammar.specs.Stream.{Window, windowSent, windowsSent}
 use Rattle.grammar.proofs.OneReading.{bytes-append, data-bytes}
-use Rattle.lister.specs.Windows.{windowsStop}
-use Rattle.lister.specs.Listing.{head-length, countAt}
+use Rattle.reader.specs.Windows.{windowsStop}
+use Rattle.reader.specs.Stream.{head-length, countAt}
 use Rattle.writer.proofs.Over.{copied, then-over, then-byte, length-over}
 use Rattle.tidy.specs.Spans.{Span, covered, spansOf, valuesOf}
-use Rattle.tidy.specs.Tidy.{windowsAt, givenOf, lastByte, windowOver, tidyWindows, tidied}
+use Rattle.reader.specs.Given.{windowsAt, givenOf}
+use Rattle.tidy.specs.Tidy.{lastByte, windowOver, tidyWindows, tidied}
 use Rattle.tidy.specs.Steps.{spansIn, Gathered, render, longOf, AtPlaces, paintAll, laidOut, Ready}
 use Rattle.tidy.proofs.Canon.{spans-are}
-use Rattle.tidy.proofs.Given.{windows-fit}
+use Rattle.reader.proofs.Given.{windows-fit}
 use Rattle.tidy.proofs.Lengths.{in-length, render-length}
 use Rattle.tidy.proofs.Painting.{paint-all}
 

@@ -13,10 +13,10 @@ use Rattle.chain.specs.Rules.{pick}
 use Rattle.chain.specs.Window.{widthOf, highByte, lowByte}
 use Rattle.grammar.specs.Stream.{Window}
 use Rattle.grammar.specs.Tables.{nullByte}
-use Rattle.lister.specs.Windows.{windowsStop}
-use Rattle.lister.specs.Listing.{head-length, countAt}
+use Rattle.reader.specs.Windows.{windowsStop}
+use Rattle.reader.specs.Stream.{head-length, countAt}
 use Rattle.tidy.specs.Spans.{Span, span, has, covered, valuesOf}
-use Rattle.tidy.specs.Tidy.{windowsAt}
+use Rattle.reader.specs.Given.{windowsAt}
 
 -- ---- a table of spans
 

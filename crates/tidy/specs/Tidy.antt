@@ -1,34 +1,21 @@
 -- The tidier: the one stream in mode 1 for what a stream means to one device, its numbers, its answer and the output it leaves. Assumes nothing.
 use Prim.Native.Nat.{ℕ}
 use mathlib.Core.Bool.{not}
-use mathlib.Core.List.{List, [], _∷_, _++_, map}
+use mathlib.Core.List.{List, [], _∷_, map}
 use lib.Dec.{eqb, ltb}
-use lib.ListN.{length, getD, take, drop}
+use lib.ListN.{length}
 use Rattle.chain.specs.declared.Written.{Written}
 use Rattle.chain.specs.Paper.{first-mode, done, bad-chain, too-short}
 use Rattle.chain.specs.Rules.{Rule, _gives_, firstOf}
 use Rattle.chain.specs.Kinds.{sizeOf}
 use Rattle.chain.specs.Window.{widthOf}
 use Rattle.chain.specs.Output.{writtenOf, outputOf, Writes}
-use Rattle.grammar.specs.Sent.{memory, lastTo, bytesOf}
-use Rattle.grammar.specs.Stream.{Window, Section, windowsSent, lastSent, leadSent}
+use Rattle.grammar.specs.Sent.{memory, lastTo}
+use Rattle.grammar.specs.Stream.{Window, windowsSent}
 use Rattle.grammar.specs.Tables.{windowOf}
-use Rattle.lister.specs.declared.window.ReadWindow.{ReadWindow}
-use Rattle.lister.specs.Windows.{windowsOf}
-use Rattle.lister.specs.Listing.{head-length, controlAt, countAt, streamStop}
+use Rattle.reader.specs.Stream.{streamStop}
+use Rattle.reader.specs.Given.{givenOf, streamWith}
 use Rattle.tidy.specs.Spans.{Span, covered, spansOf, valuesOf}
-
--- a window that the lister read in the stream s, with its data; its null byte has no meaning
-abbrev pub windowIn : List ℕ → ReadWindow → Window
-windowIn s w = windowOf (w .start) (w .end) (take (widthOf (w .start) (w .end)) (drop (w .first) s))
-
--- n of them, the first one's null byte at a position
-abbrev pub windowsAt : ℕ → List ℕ → ℕ → ℕ → List Window
-windowsAt size s n at = map (windowIn s) (windowsOf size s n at)
-
--- the windows of a stream in mode 1
-unfoldable pub givenOf : ℕ → List ℕ → List Window
-givenOf size s = windowsAt size s (countAt s 0) head-length
 
 -- the last byte that windows send to cell i of the device
 abbrev pub lastByte : List Window → ℕ → ℕ
@@ -43,13 +30,8 @@ unfoldable pub tidyWindows : ℕ → List Window → List Window
 tidyWindows size ws = map (windowOver (lastByte ws)) (spansOf (covered ws) size 0)
 
 -- control byte and external address are kept
-abbrev pub tidySection : ℕ → List ℕ → Section
-tidySection size s =
-    record { control = controlAt s 0; address0 = getD s 2 0; address1 = getD s 3 0; address2 = getD s 4 0; windows = tidyWindows size (givenOf size s) }
-
--- its stream in mode 1, for a device whose memory begins at 0
 unfoldable pub tidied : ℕ → List ℕ → List ℕ
-tidied size s = bytesOf (leadSent first-mode ++ lastSent 0 0 (tidySection size s))
+tidied size s = streamWith s (tidyWindows size (givenOf size s))
 
 -- an unknown kind, the number that the lister gives the stream in mode 1, room; long is the length of the tidied stream, room that of the output
 abbrev pub tidyRules : ℕ → List ℕ → ℕ → ℕ → List Rule

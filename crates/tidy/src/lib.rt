@@ -7,7 +7,7 @@ mod spans;
 use chain::Written;
 use chain::kinds::size_of;
 use chain::paper::*;
-use lister::stream::read_stream;
+use reader::stream::read_stream;
 ghost use lib.ListN.{length};
 ghost use Rattle.chain.specs.Output.{Writes};
 ghost use Rattle.tidy.specs.Tidy.{tidied, Tidies};

@@ -1,18 +1,18 @@
 // Windows in the order of their starts, joined to spans of cells, each of which is one number: start * 65536 + end.
 use crate::sort::sort;
 use chain::window::width;
-use lister::stream::HEAD_LENGTH;
-use lister::window::read_window;
+use reader::stream::HEAD_LENGTH;
+use reader::window::read_window;
 ghost use mathlib.Core.Path.{_≡_};
 ghost use Prim.Native.Nat.{_+_, _*_, _≤_};
 ghost use lib.ListN.{length, take};
 ghost use lib.Dec.{leb, ltb};
 ghost use Rattle.chain.specs.Rules.{pick};
 ghost use Rattle.chain.specs.Paper.{done};
-ghost use Rattle.lister.specs.Windows.{windowsStop};
-ghost use Rattle.lister.specs.Listing.{head-length};
+ghost use Rattle.reader.specs.Windows.{windowsStop};
+ghost use Rattle.reader.specs.Stream.{head-length};
 ghost use Rattle.tidy.specs.Spans.{span};
-ghost use Rattle.tidy.specs.Tidy.{windowsAt};
+ghost use Rattle.reader.specs.Given.{windowsAt};
 ghost use Rattle.tidy.specs.Steps.{decoded, spansIn, keysOf, endsOf, Gathered, longOf, AtPlaces, Joinable, Joins};
 
 fn code(start: u16, end: u16) -> u32

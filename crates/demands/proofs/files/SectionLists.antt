@@ -15,10 +15,11 @@ use Rattle.chain.specs.Rules.{pick}
 use Rattle.chain.specs.Kinds.{sizeOf}
 use Rattle.chain.specs.declared.Chain.{Chain}
 use Rattle.chain.proofs.ByCases.{by-test}
-use Rattle.lister.specs.Stops.{stop}
-use Rattle.lister.specs.Windows.{startAt, endAt, nextAt, windowStop, windowsStop, windowsOf}
-use Rattle.lister.specs.Listing.{preambleAt, countAt, headStop, checkStop, streamStop, listStop, listedOf, listingOf, startsOf, endsOf, offsetsOf}
-use Rattle.lister.proofs.Windows.{whole, read-whole}
+use Rattle.reader.specs.Stops.{stop}
+use Rattle.reader.specs.Windows.{startAt, endAt, nextAt, windowStop, windowsStop, windowsOf}
+use Rattle.reader.specs.Stream.{preambleAt, countAt, headStop, checkStop, streamStop}
+use Rattle.lister.specs.Listing.{listStop, listedOf, listingOf, startsOf, endsOf, offsetsOf}
+use Rattle.reader.proofs.Windows.{whole, read-whole}
 use Rattle.grammar.specs.Stream.{Window, Section, streamSent}
 use Rattle.grammar.specs.Sent.{bytesOf}
 use Rattle.grammar.specs.Fits.{Fits, AllFit, SectionFits}

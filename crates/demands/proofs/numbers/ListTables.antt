@@ -26,11 +26,12 @@ use Rattle.machine.specs.declared.Fed.{Fed}
 use Rattle.machine.proofs.Runs.{step-number}
 use Rattle.grammar.proofs.runs.Slices.{slice-runs, slice-number}
 use Rattle.machine.proofs.Feed.{first-on, first-off}
-use Rattle.lister.specs.declared.stream.Stop.{Stop}
+use Rattle.reader.specs.declared.stream.Stop.{Stop}
 use Rattle.lister.specs.declared.Listed.{Listed}
-use Rattle.lister.specs.Stops.{stop}
-use Rattle.lister.specs.Listing.{preambleAt, countAt, streamStop, anyShorter, listStop, listedOf, listingOf, listed, Lists}
-use Rattle.lister.proofs.AsMachine.{stream-as-machine}
+use Rattle.reader.specs.Stops.{stop}
+use Rattle.reader.specs.Stream.{preambleAt, countAt, streamStop}
+use Rattle.lister.specs.Listing.{anyShorter, listStop, listedOf, listingOf, listed, Lists}
+use Rattle.reader.proofs.AsMachine.{stream-as-machine}
 use Rattle.chain.specs.Bytes.{Bytes}
 use Rattle.chain.specs.WellFormed.{Among, Between}
 use Rattle.chain.specs.Table.{Table}

@@ -17,7 +17,7 @@ use Rattle.chain.specs.Calls.{firstOnly, freshChain}
 use Rattle.chain.proofs.ByCases.{by-test}
 use Rattle.chain.proofs.Bytes.{bytes-take}
 use Rattle.machine.specs.Calls.{startOf, sliceOf}
-use Rattle.lister.specs.Listing.{streamStop}
+use Rattle.reader.specs.Stream.{streamStop}
 use Rattle.grammar.specs.Fits.{Reading}
 use Rattle.tidy.specs.Tidy.{tidyNumber}
 use Rattle.demands.specs.Loader.{Loader, Idle}

@@ -8,15 +8,16 @@ use lib.ListN.{length, length-append}
 use Rattle.chain.specs.declared.Chain.{Chain}
 use Rattle.chain.specs.Paper.{preamble, postamble, no-windows, first-mode, done}
 use Rattle.chain.specs.Kinds.{sizeOf, baseOf}
-use Rattle.lister.specs.declared.stream.Stop.{Stop}
-use Rattle.lister.specs.Windows.{windowsOf}
-use Rattle.lister.specs.Listing.{preambleAt, head-length, streamStop}
+use Rattle.reader.specs.declared.stream.Stop.{Stop}
+use Rattle.reader.specs.Windows.{windowsOf}
+use Rattle.reader.specs.Stream.{preambleAt, head-length, streamStop}
 use Rattle.grammar.specs.Sent.{bytesOf}
 use Rattle.grammar.specs.Stream.{Window, Section, leadSent, lastSent, streamSent}
 use Rattle.grammar.specs.Fits.{AllFit, SectionFits}
 use Rattle.grammar.specs.Tables.{nulled}
 use Rattle.grammar.proofs.SectionBytes.{windowBytes, windowsBytes, sectionBytes, stream-bytes}
-use Rattle.tidy.specs.Tidy.{windowIn, givenOf, tidyWindows, tidySection, tidied}
+use Rattle.reader.specs.Given.{windowIn, givenOf, withHead}
+use Rattle.tidy.specs.Tidy.{tidyWindows, tidied}
 use Rattle.tidy.proofs.SameWindows.{tidy-nulls}
 use Rattle.demands.proofs.files.SectionLists.{Stands, stands, list-more, Stood, stood-one, stream-stop}
 
@@ -74,7 +75,7 @@ module _ (kind : ℕ) (c : Chain) (x : Section) (rest : List ℕ) (f : SectionFi
       ∙ ap (λ (s : List ℕ). map (windowIn s) (windowsOf (sizeOf kind) s (length (x .windows)) head-length)) file-is
       ∙ there
 
-  section-is : tidySection (sizeOf kind) file ≡ tidyOne (sizeOf kind) x
+  section-is : withHead file (tidyWindows (sizeOf kind) (givenOf (sizeOf kind) file)) ≡ tidyOne (sizeOf kind) x
   section-is = rw (stood .control, stood .address0, stood .address1, stood .address2, given-is, tidy-nulls (sizeOf kind) (x .windows))
 
   pub tidied-is : tidied (sizeOf kind) file ≡ bytesOf (streamSent c first-mode (tidyOne (sizeOf kind) x) [])

@@ -14,12 +14,13 @@ use Rattle.awaited.specs.Byte.{numberOf, passedOf, advanceOf}
 use Rattle.machine.specs.Run.{addressOf, memoryOf, registersOf, missedOf, stepOf, runOf}
 use Rattle.machine.specs.Calls.{startNumber, startOf, fedOf, sliceOf, sliceMemory}
 use Rattle.writer.specs.Stream.{sectionOf}
-use Rattle.lister.specs.Windows.{windowStop, readWindowOf, windowsStop, windowsOf}
-use Rattle.lister.specs.Listing.{preambleAt, headStop, checkStop, streamStop}
+use Rattle.reader.specs.Windows.{windowStop, readWindowOf, windowsStop, windowsOf}
+use Rattle.reader.specs.Stream.{preambleAt, headStop, checkStop, streamStop}
 use Rattle.grammar.specs.Stream.{Window, Section}
 use Rattle.grammar.specs.Fits.{SectionsFit}
 use Rattle.tidy.specs.Spans.{covered, spansOf}
-use Rattle.tidy.specs.Tidy.{givenOf, tidyWindows, tidied, tidyNumber}
+use Rattle.reader.specs.Given.{givenOf}
+use Rattle.tidy.specs.Tidy.{tidyWindows, tidied, tidyNumber}
 use Rattle.demands.specs.Loader.{offered}
 use Rattle.demands.specs.Patches.{Sending, leftBy}
 use Rattle.demands.specs.OneFile.{Accepted, TidyFile, tidying, Done, tidiedAgain, WellTidied, TidiesAll, SameMeaning}

@@ -16,7 +16,7 @@ use Rattle.chain.specs.Kinds.{sizeAt}
 use Rattle.chain.specs.Bytes.{Bytes}
 use Rattle.chain.specs.Output.{over, Writes}
 use Rattle.chain.proofs.Means.{Means, m-le, m-and, m-or}
-use Rattle.lister.specs.Listing.{streamStop}
+use Rattle.reader.specs.Stream.{streamStop}
 use Rattle.grammar.specs.Sent.{memory, bytesOf}
 use Rattle.grammar.specs.Stream.{Window, Section, streamSent}
 use Rattle.grammar.specs.Fits.{SectionFits, SectionsFit}

@@ -17,8 +17,9 @@ use Rattle.machine.specs.Run.{addressOf, memoryOf, registersOf, missedOf, stepO
 use Rattle.machine.specs.Calls.{startNumber, startOf, fedOf, sliceOf, sliceMemory}
 use Rattle.writer.specs.Stream.{leadIn, streamOf, sectionOf}
 use Rattle.writer.specs.Write.{windowsNumber, sumOf, numberOf as writeNumber-of, writeNumber}
-use Rattle.lister.specs.Windows.{windowStop, readWindowOf, windowsStop, windowsOf}
-use Rattle.lister.specs.Listing.{preambleAt, headStop, checkStop, streamStop, listStop, listedOf, listingOf}
+use Rattle.reader.specs.Windows.{windowStop, readWindowOf, windowsStop, windowsOf}
+use Rattle.reader.specs.Stream.{preambleAt, headStop, checkStop, streamStop}
+use Rattle.lister.specs.Listing.{listStop, listedOf, listingOf}
 use Rattle.closing.specs.Closing.{closingBytes}
 use Rattle.closing.specs.Calls.{writtenNumber}
 use Rattle.grammar.specs.Stream.{Window, Section, streamSent}

@@ -12,14 +12,15 @@ use Rattle.awaited.specs.Byte.{numberOf, passedOf, advanceOf}
 use Rattle.machine.specs.Run.{addressOf, memoryOf, registersOf, missedOf, stepOf, runOf}
 use Rattle.machine.specs.Calls.{startNumber, startOf, fedOf, sliceOf, sliceMemory}
 use Rattle.writer.specs.Stream.{sectionOf}
-use Rattle.lister.specs.Windows.{windowStop, readWindowOf, windowsStop, windowsOf}
-use Rattle.lister.specs.Listing.{preambleAt, headStop, checkStop, streamStop}
+use Rattle.reader.specs.Windows.{windowStop, readWindowOf, windowsStop, windowsOf}
+use Rattle.reader.specs.Stream.{preambleAt, headStop, checkStop, streamStop}
 use Rattle.grammar.specs.Stream.{Window, Section}
 use Rattle.grammar.specs.Fits.{SectionsFit}
 use Rattle.grammar.specs.Tables.{windowOf}
 use Rattle.grammar.proofs.OneReading.{same-sections}
 use Rattle.tidy.specs.Spans.{covered, spansOf}
-use Rattle.tidy.specs.Tidy.{givenOf, tidyWindows}
+use Rattle.reader.specs.Given.{givenOf}
+use Rattle.tidy.specs.Tidy.{tidyWindows}
 use Rattle.demands.specs.Loader.{AfterSlice}
 use Rattle.demands.specs.Demand2.{slices}
 use Rattle.demands.specs.Patches.{Sending, leftBy}

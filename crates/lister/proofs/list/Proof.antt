@@ -1,7 +1,7 @@
 use mathlib.Core.Path.{ap, sym, _∙_}
 use native.Mathlib.Omega.{arith}
 use lib.ListN.{length}
-use Rattle.lister.specs.declared.stream.Stop.{Stop}
+use Rattle.reader.specs.declared.stream.Stop.{Stop}
 use Rattle.lister.proofs.Listings.{list-done, list-below}
 use Rattle.lister.proofs.Tables.{lists-none, may-fill, lists-all}
 use borrow.Author.Needs.{needs}

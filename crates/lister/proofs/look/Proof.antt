@@ -3,8 +3,8 @@ use mathlib.Core.Path.{ap, sym, _∙_}
 use native.Mathlib.Omega.{arith}
 use Rattle.chain.proofs.Tests.{tests}
 use Rattle.lister.specs.Listing.{listStop}
-use Rattle.lister.specs.declared.stream.Stop.{Stop}
-use Rattle.lister.proofs.Listings.{stream-done}
+use Rattle.reader.specs.declared.stream.Stop.{Stop}
+use Rattle.reader.proofs.Streams.{stream-done}
 use borrow.Author.Needs.{needs}
 use Rattle.lister.proofs.look.Statement.{statement}
 use Rattle.lister.proofs.look.Tie as tie

@@ -1,8 +1,8 @@
 use mathlib.Core.Path.{_∙_}
 use lib.ListN.{length}
-use Rattle.lister.specs.Listing.{head-length}
-use Rattle.tidy.specs.Tidy.{windowsAt}
-use Rattle.tidy.proofs.Given.{windows-fit}
+use Rattle.reader.specs.Stream.{head-length}
+use Rattle.reader.specs.Given.{windowsAt}
+use Rattle.reader.proofs.Given.{windows-fit}
 use Rattle.tidy.proofs.Gathering.{joinable, gathered-all}
 use borrow.Author.Needs.{needs}
 use Rattle.tidy.proofs.spans.gather.Statement.{statement}

@@ -1,9 +1,9 @@
-use Rattle.lister.proofs.Listings.{head-none, head-bad, head-one, head-no-second, head-bad-second, head-two}
+use Rattle.reader.proofs.Streams.{head-none, head-bad, head-one, head-no-second, head-bad-second, head-two}
 use mathlib.Core.Path.{sym, _∙_}
 use borrow.Author.Tests.{eq-eqb, ne-eqb}
 use borrow.Author.Needs.{needs}
-use Rattle.lister.proofs.stream.head.Statement.{statement}
-use Rattle.lister.proofs.stream.head.Tie as tie
+use Rattle.reader.proofs.stream.head.Statement.{statement}
+use Rattle.reader.proofs.stream.head.Tie as tie
 
 returns : tie.Need-returns
 returns c = let a = (c .before .before .args) in sym (head-none (a .mode) (a .s .now) (c .if1 .taken))

@@ -5,7 +5,7 @@ use mathlib.Core.List.{List, [], _∷_}
 use lib.Dec.{eqb}
 use Rattle.chain.specs.Paper.{done}
 use Rattle.chain.specs.Rules.{pick}
-use Rattle.lister.specs.declared.stream.Stop.{Stop}
+use Rattle.reader.specs.declared.stream.Stop.{Stop}
 
 abbrev pub stop : ℕ → ℕ → Stop
 stop number taken = record { number = number; taken = taken }

@@ -1,8 +1,8 @@
 use mathlib.Core.Path.{sym, _∙_}
-use Rattle.lister.proofs.Windows.{no-start, start-bad, no-end, end-bad, no-data, found-whole, read-whole}
+use Rattle.reader.proofs.Windows.{no-start, start-bad, no-end, end-bad, no-data, found-whole, read-whole}
 use borrow.Author.Needs.{needs}
-use Rattle.lister.proofs.window.read_window.Statement.{statement}
-use Rattle.lister.proofs.window.read_window.Tie as tie
+use Rattle.reader.proofs.window.read_window.Statement.{statement}
+use Rattle.reader.proofs.window.read_window.Tie as tie
 
 returns : tie.Need-returns
 returns c =

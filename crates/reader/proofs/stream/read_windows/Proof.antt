@@ -1,11 +1,11 @@
 use mathlib.Core.Path.{_≡_, refl, sym, _∙_}
 use borrow.Author.Tests.{eq-eqb, ne-eqb}
 use Rattle.chain.specs.Paper.{done}
-use Rattle.lister.specs.Windows.{windowsStop}
-use Rattle.lister.proofs.Windows.{windows-more, windows-none}
+use Rattle.reader.specs.Windows.{windowsStop}
+use Rattle.reader.proofs.Windows.{windows-more, windows-none}
 use borrow.Author.Needs.{needs}
-use Rattle.lister.proofs.stream.read_windows.Statement.{statement}
-use Rattle.lister.proofs.stream.read_windows.Tie as tie
+use Rattle.reader.proofs.stream.read_windows.Statement.{statement}
+use Rattle.reader.proofs.stream.read_windows.Tie as tie
 
 abbrev Inv-loop : tie.InvT-loop
 Inv-loop size s n from left₀ at₀ left at = windowsStop size s n from ≡ windowsStop size s left at

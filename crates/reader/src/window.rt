@@ -4,7 +4,7 @@ use chain::window::pair;
 use chain::window::width;
 ghost use mathlib.Core.Path.{_≡_};
 ghost use Prim.Native.Nat.{_-_};
-ghost use Rattle.lister.specs.Windows.{readWindowOf};
+ghost use Rattle.reader.specs.Windows.{readWindowOf};
 
 // The window's bounds, the position of its first data byte, and the position after its last. Where the number is not 0
 // the first three are 0, and next is the position after the refused byte, or the length of a stream that is used up.

@@ -6,9 +6,9 @@ ghost use Prim.Native.Nat.{_≤_};
 ghost use lib.Dec.{ltb};
 ghost use Rattle.chain.specs.Paper.{done, more};
 ghost use Rattle.chain.specs.Rules.{pick};
-ghost use Rattle.lister.specs.Stops.{stop};
-ghost use Rattle.lister.specs.Windows.{windowsStop};
-ghost use Rattle.lister.specs.Listing.{preambleAt, headStop, checkStop, streamStop};
+ghost use Rattle.reader.specs.Stops.{stop};
+ghost use Rattle.reader.specs.Windows.{windowsStop};
+ghost use Rattle.reader.specs.Stream.{preambleAt, headStop, checkStop, streamStop};
 
 // Preamble, control byte, three of address, count; then the windows.
 pub const HEAD_LENGTH: usize = 6;
@@ -102,7 +102,7 @@ pub fn read_windows(size: u16, s: &[u8], n: u8, from: usize) -> Stop
 }
 
 // The check byte of the only device.
-fn check(control: u8, s: &[u8], at: usize) -> Stop
+pub fn check(control: u8, s: &[u8], at: usize) -> Stop
     ensures { λ r. ⌜ r ≡ checkStop control (now (s .entry)) at ⌝ }
 {
     let n = s.len();

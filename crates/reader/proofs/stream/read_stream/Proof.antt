@@ -3,12 +3,12 @@ use mathlib.Core.Path.{ap, sym, _∙_}
 use native.Mathlib.Omega.{arith}
 use borrow.Author.Tests.{eq-eqb, ne-eqb}
 use Rattle.chain.specs.Paper.{done}
-use Rattle.lister.specs.Listing.{streamStop}
-use Rattle.lister.specs.declared.stream.Stop.{Stop}
-use Rattle.lister.proofs.Listings.{head-done}
+use Rattle.reader.specs.Stream.{streamStop}
+use Rattle.reader.specs.declared.stream.Stop.{Stop}
+use Rattle.reader.proofs.Streams.{head-done}
 use borrow.Author.Needs.{needs}
-use Rattle.lister.proofs.stream.read_stream.Statement.{statement}
-use Rattle.lister.proofs.stream.read_stream.Tie as tie
+use Rattle.reader.proofs.stream.read_stream.Statement.{statement}
+use Rattle.reader.proofs.stream.read_stream.Tie as tie
 
 returns : tie.Need-returns
 unfolding streamStop

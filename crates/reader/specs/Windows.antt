@@ -7,9 +7,9 @@ use lib.Dec.{eqb, ltb, leb}
 use Rattle.chain.specs.Paper.{done, bad-start, bad-end, more}
 use Rattle.chain.specs.Rules.{pick}
 use Rattle.chain.specs.Window.{word, widthOf, startOutside, endOutside}
-use Rattle.lister.specs.declared.stream.Stop.{Stop}
-use Rattle.lister.specs.declared.window.ReadWindow.{ReadWindow}
-use Rattle.lister.specs.Stops.{stop, Row, _gives_after_, firstStop, _then_, ifDone}
+use Rattle.reader.specs.declared.stream.Stop.{Stop}
+use Rattle.reader.specs.declared.window.ReadWindow.{ReadWindow}
+use Rattle.reader.specs.Stops.{stop, Row, _gives_after_, firstStop, _then_, ifDone}
 
 abbrev pub startAt : List ℕ → ℕ → ℕ
 startAt s at = word (getD s (at + 1) 0) (getD s (at + 2) 0)

@@ -7,10 +7,10 @@ use lib.ListN.{length, drop, length-drop}
 use lib.Seq.{length-take-le}
 use Rattle.chain.specs.Paper.{done}
 use Rattle.grammar.specs.Fits.{Fits, AllFit}
-use Rattle.lister.specs.declared.window.ReadWindow.{ReadWindow}
-use Rattle.lister.specs.Windows.{startAt, endAt, readWindowOf, windowsStop, windowsOf}
-use Rattle.lister.proofs.Windows.{Whole, windows-first}
-use Rattle.tidy.specs.Tidy.{windowIn, windowsAt}
+use Rattle.reader.specs.declared.window.ReadWindow.{ReadWindow}
+use Rattle.reader.specs.Windows.{startAt, endAt, readWindowOf, windowsStop, windowsOf}
+use Rattle.reader.proofs.Windows.{Whole, windows-first}
+use Rattle.reader.specs.Given.{windowIn, windowsAt}
 
 -- one window
 pub record FitsIn (size : ℕ) (s : List ℕ) (w : ReadWindow) : Type 0 where

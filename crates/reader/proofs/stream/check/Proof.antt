@@ -1,8 +1,8 @@
 use Rattle.chain.proofs.Tests.{tests}
-use Rattle.lister.specs.Listing.{checkStop}
+use Rattle.reader.specs.Stream.{checkStop}
 use borrow.Author.Needs.{needs}
-use Rattle.lister.proofs.stream.check.Statement.{statement}
-use Rattle.lister.proofs.stream.check.Tie as tie
+use Rattle.reader.proofs.stream.check.Statement.{statement}
+use Rattle.reader.proofs.stream.check.Tie as tie
 
 pub check-spec : {M : Type 1} → statement M
 unfolding checkStop

@@ -1,8 +1,8 @@
 use native.Mathlib.Omega.{arith}
 use Rattle.chain.proofs.Tests.{tests}
-use Rattle.lister.specs.Listing.{preambleAt}
-use Rattle.lister.proofs.stream.preamble_at.Statement.{statement}
-use Rattle.lister.proofs.stream.preamble_at.Tie as tie
+use Rattle.reader.specs.Stream.{preambleAt}
+use Rattle.reader.proofs.stream.preamble_at.Statement.{statement}
+use Rattle.reader.proofs.stream.preamble_at.Tie as tie
 
 pub preamble-at-spec : {M : Type 1} → statement M
 unfolding preambleAt

@@ -21,11 +21,11 @@ use Rattle.machine.specs.Run.{Run, run, addressOf, memoryOf, registersOf, misse
 use Rattle.machine.specs.Block.{missesOf, laidOf}
 use Rattle.machine.proofs.Feed.{run-at, run-end, run-over, run-part}
 use Rattle.machine.proofs.Block.{block, blockOf}
-use Rattle.lister.specs.declared.stream.Stop.{Stop}
-use Rattle.lister.specs.declared.window.ReadWindow.{ReadWindow}
-use Rattle.lister.specs.Stops.{stop, _then_}
-use Rattle.lister.specs.Windows.{startAt, endAt, nextAt, windowStop, readWindowOf, windowsStop, windowsOf}
-use Rattle.lister.proofs.Windows.{ways, is-whole, whole-next}
+use Rattle.reader.specs.declared.stream.Stop.{Stop}
+use Rattle.reader.specs.declared.window.ReadWindow.{ReadWindow}
+use Rattle.reader.specs.Stops.{stop, _then_}
+use Rattle.reader.specs.Windows.{startAt, endAt, nextAt, windowStop, readWindowOf, windowsStop, windowsOf}
+use Rattle.reader.proofs.Windows.{ways, is-whole, whole-next}
 
 -- ---- any run
 

@@ -12,10 +12,10 @@ use Rattle.chain.proofs.Means.{Means, says, reads}
 use Rattle.chain.specs.Paper.{done, bad-start, bad-end, more}
 use Rattle.chain.specs.Rules.{pick}
 use Rattle.chain.specs.Window.{startOutside, endOutside}
-use Rattle.lister.specs.declared.stream.Stop.{Stop}
-use Rattle.lister.specs.declared.window.ReadWindow.{ReadWindow}
-use Rattle.lister.specs.Stops.{stop}
-use Rattle.lister.specs.Windows.{startAt, endAt, nextAt, windowStop, readWindowOf, windowsStop, windowsOf}
+use Rattle.reader.specs.declared.stream.Stop.{Stop}
+use Rattle.reader.specs.declared.window.ReadWindow.{ReadWindow}
+use Rattle.reader.specs.Stops.{stop}
+use Rattle.reader.specs.Windows.{startAt, endAt, nextAt, windowStop, readWindowOf, windowsStop, windowsOf}
 
 -- ---- the ways in which one window is read
 

@@ -1,0 +1,6 @@
+pub mod Windows
+pub mod Streams
+pub mod Runs
+pub mod AsMachine
+pub mod Given
+pub mod Only

@@ -1,0 +1,4 @@
+pub mod Stops
+pub mod Windows
+pub mod Stream
+pub mod Given
