@@ -16,3 +16,4 @@ pub mod Sound
 pub mod Table
 pub mod Only
 pub mod Output
+pub mod Over

@@ -6,7 +6,7 @@ use native.Mathlib.Omega.{arith}
 use lib.ListN.{length, take, drop, getD, replicate, length-replicate, take-append-drop}
 use Rattle.chain.specs.Window.{widthOf}
 use Rattle.chain.specs.Output.{over}
-use Rattle.writer.proofs.Over.{tail-length, back, over-more, length-more}
+use Rattle.chain.proofs.Over.{tail-length, back, over-more, length-more}
 use Rattle.tidy.specs.Steps.{decoded, spansIn, windowBytes, render, longOf}
 use Rattle.tidy.proofs.Values.{values-zero}
 use Rattle.tidy.proofs.Lengths.{in-cons, in-none, long-more}

@@ -13,7 +13,7 @@ use Rattle.grammar.specs.Stream.{Window, windowSent, windowsSent}
 use Rattle.grammar.proofs.OneReading.{bytes-append, data-bytes}
 use Rattle.reader.specs.Windows.{windowsStop}
 use Rattle.reader.specs.Stream.{head-length, countAt}
-use Rattle.writer.proofs.Over.{copied, then-over, then-byte, length-over}
+use Rattle.chain.proofs.Over.{copied, then-over, then-byte, length-over}
 use Rattle.tidy.specs.Spans.{Span, covered, spansOf, valuesOf}
 use Rattle.reader.specs.Given.{windowsAt, givenOf}
 use Rattle.tidy.specs.Tidy.{lastByte, windowOver, tidyWindows, tidied}

@@ -9,7 +9,7 @@ use lib.Dec.{ltb}
 use lib.ListN.{length, take, drop, length-drop, drop-of-length-le}
 use lib.Seq.{sets, take-take, take-add, take-append-le, drop-append-add, drop-drop, length-take-le}
 use Rattle.chain.specs.Output.{over}
-use Rattle.writer.proofs.Over.{copied}
+use Rattle.chain.proofs.Over.{copied}
 use Rattle.writer.proofs.Accepted.{both-false}
 
 -- over all of o

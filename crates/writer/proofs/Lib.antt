@@ -1,4 +1,3 @@
-pub mod Over
 pub mod Windows
 pub mod Turn
 pub mod Parts

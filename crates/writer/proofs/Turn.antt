@@ -9,7 +9,7 @@ use Rattle.chain.specs.Window.{widthOf}
 use Rattle.writer.specs.Stream.{windowBytes, windowsBytes}
 use Rattle.chain.specs.Output.{over}
 use Rattle.writer.specs.Write.{sumOf}
-use Rattle.writer.proofs.Over.{back, over-more, length-more, tail-length}
+use Rattle.chain.proofs.Over.{back, over-more, length-more, tail-length}
 use Rattle.writer.proofs.Windows.{bytes-more, bytes-done, window-length, sum-more, sum-done}
 
 -- the windows left, written into the tail of o, give the whole output; i windows and `from` data bytes are written so far

@@ -1,7 +1,7 @@
 use mathlib.Core.Path.{refl}
 use mathlib.Core.List.{[]}
 use lib.ListN.{replicate}
-use Rattle.writer.proofs.Over.{then-over}
+use Rattle.chain.proofs.Over.{then-over}
 use Rattle.tidy.specs.Steps.{windowBytes}
 use borrow.Author.Needs.{needs}
 use Rattle.tidy.proofs.lay.empty.Statement.{statement}

@@ -5,7 +5,7 @@ use native.Mathlib.Omega.{arith}
 use lib.ListN.{length, take}
 use lib.Seq.{take-length, length-take-le}
 use Rattle.chain.specs.Output.{over}
-use Rattle.writer.proofs.Over.{over-is}
+use Rattle.chain.proofs.Over.{over-is}
 use Rattle.writer.proofs.Copied.{a-block, short, block-more}
 use borrow.Author.Needs.{needs}
 use Rattle.writer.proofs.blocks.copy_blocks.Statement.{statement}

@@ -1,6 +1,6 @@
 use native.Mathlib.Omega.{arith}
 use lib.ListN.{length-set}
-use Rattle.writer.proofs.Over.{five-stored}
+use Rattle.chain.proofs.Over.{five-stored}
 use borrow.Author.Needs.{needs}
 use Rattle.writer.proofs.put.framing.Statement.{statement}
 use Rattle.writer.proofs.put.framing.Tie as tie

@@ -3,7 +3,7 @@ use mathlib.Core.List.{List, [], _∷_}
 use native.Mathlib.Omega.{arith}
 use lib.ListN.{getD}
 use Rattle.writer.specs.Stream.{leadIn}
-use Rattle.writer.proofs.Over.{then-copied}
+use Rattle.chain.proofs.Over.{then-copied}
 use Rattle.chain.specs.Paper.{no-windows}
 use borrow.Author.Needs.{needs}
 use Rattle.writer.proofs.put.head.Statement.{statement}

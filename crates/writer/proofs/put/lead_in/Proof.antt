@@ -6,7 +6,7 @@ use Rattle.chain.proofs.Tests.{tests}
 use Rattle.chain.specs.Paper.{preamble}
 use Rattle.grammar.specs.Tables.{nullByte}
 use Rattle.writer.specs.Stream.{leadIn}
-use Rattle.writer.proofs.Over.{copied}
+use Rattle.chain.proofs.Over.{copied}
 use borrow.Author.Needs.{needs}
 use Rattle.writer.proofs.put.lead_in.Statement.{statement}
 use Rattle.writer.proofs.put.lead_in.Tie as tie

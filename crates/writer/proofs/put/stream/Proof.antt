@@ -5,7 +5,7 @@ use native.Mathlib.Omega.{arith}
 use lib.ListN.{length, set, length-set}
 use Rattle.chain.specs.Paper.{postamble}
 use Rattle.writer.specs.Stream.{headBytes, windowsBytes, streamOf}
-use Rattle.writer.proofs.Over.{then-over, then-byte, length-over, over-is}
+use Rattle.chain.proofs.Over.{then-over, then-byte, length-over, over-is}
 use Rattle.writer.proofs.Parts.{head-length, stream-parts, parts-length, stream-length}
 use borrow.Author.Needs.{needs}
 use Rattle.writer.proofs.put.stream.Statement.{statement}

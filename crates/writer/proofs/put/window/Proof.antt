@@ -2,7 +2,7 @@ use mathlib.Core.Path.{refl, _∙_}
 use mathlib.Core.List.{[], _++_}
 use native.Mathlib.Omega.{arith}
 use Rattle.writer.specs.Stream.{windowBytes}
-use Rattle.writer.proofs.Over.{then-over, over-is}
+use Rattle.chain.proofs.Over.{then-over, over-is}
 use Rattle.writer.proofs.Parts.{window-parts}
 use borrow.Author.Needs.{needs}
 use Rattle.writer.proofs.put.window.Statement.{statement}
