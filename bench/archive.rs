@@ -1,6 +1,7 @@
 //! The archive, through by_pointer.c.
 use crate::files::Hunted;
 use crate::loader::Answer;
+use crate::salvage::Salvaged;
 
 #[repr(C)]
 #[derive(Clone, Copy)]
@@ -41,6 +42,7 @@ extern "C" {
         data: *const u8, data_n: usize, out: *mut u8, out_n: usize,
     ) -> usize;
     fn raced_tidy(kind: u8, s: *const u8, s_n: usize, out: *mut u8, out_n: usize) -> usize;
+    fn raced_salvage(kind: u8, s: *const u8, s_n: usize, out: *mut u8, out_n: usize, r: &mut Salvaged);
     fn raced_list(
         kind: u8, mode: u8, s: *const u8, s_n: usize, starts: *mut u16, starts_n: usize, ends: *mut u16, ends_n: usize,
         offsets: *mut u32, offsets_n: usize,
@@ -108,6 +110,12 @@ pub fn write(kind: u8, mode: u8, starts: &[u16], ends: &[u16], data: &[u8], out:
 
 pub fn tidy(kind: u8, s: &[u8], out: &mut [u8]) -> usize {
     unsafe { raced_tidy(kind, s.as_ptr(), s.len(), out.as_mut_ptr(), out.len()) }
+}
+
+pub fn salvage(kind: u8, s: &[u8], out: &mut [u8]) -> Salvaged {
+    let mut r = Salvaged::default();
+    unsafe { raced_salvage(kind, s.as_ptr(), s.len(), out.as_mut_ptr(), out.len(), &mut r) };
+    r
 }
 
 pub fn list(kind: u8, mode: u8, s: &[u8], starts: &mut [u16], ends: &mut [u16], offsets: &mut [u32]) -> u32 {

@@ -47,6 +47,10 @@ size_t raced_tidy(uint8_t kind, const uint8_t *s, size_t s_n, uint8_t *out, size
     return at6000_tidy(kind, s, s_n, out, out_n).length;
 }
 
+void raced_salvage(uint8_t kind, const uint8_t *s, size_t s_n, uint8_t *out, size_t out_n, at6000_salvaged *r) {
+    *r = at6000_salvage(kind, s, s_n, out, out_n);
+}
+
 uint32_t raced_list(uint8_t kind, uint8_t mode, const uint8_t *s, size_t s_n, uint16_t *starts, size_t starts_n, uint16_t *ends,
                     size_t ends_n, uint32_t *offsets, size_t offsets_n) {
     return at6000_list(kind, mode, s, s_n, starts, starts_n, ends, ends_n, offsets, offsets_n).taken;

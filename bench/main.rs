@@ -4,6 +4,7 @@ mod archive;
 mod files;
 mod loader;
 mod race;
+mod salvage;
 mod tidy;
 use loader::{Answer, POSTAMBLE, PREAMBLE};
 use race::{race, runner, Runner};
@@ -254,6 +255,30 @@ impl Bench {
         self.tidy("tidy, one window of 16,381", &[0], BIG);
     }
 
+    /// A stream for kind 10 with windows from these cells on and of these lengths. It breaks off in the last: so many bytes of its data
+    /// are there.
+    fn salvage(&self, job: &str, starts: &[u16], lengths: &[usize], there: usize) {
+        let ends: Vec<u16> = starts.iter().zip(lengths).map(|(s, n)| s + *n as u16 - 1).collect();
+        let last = lengths[lengths.len() - 1];
+        let mut stream = Vec::new();
+        section(&mut stream, starts, &ends, &noise(lengths.iter().sum(), 7));
+        stream.truncate(stream.len() + there - last);
+        let s = &stream[..];
+        let (mut o1, mut o2) = (vec![0; s.len() + 1], vec![0; s.len() + 1]);
+        let told = archive::salvage(10, s, &mut o1);
+        assert_eq!(salvage::salvage(10, s, &mut o2), told);
+        assert!(o1 == o2 && (told.number, told.kept as usize, told.end) == (0, starts.len() - 1, 16));
+        let (from, mut to) = (o1[..told.length].to_vec(), vec![0; told.length]);
+        self.row(
+            job,
+            vec![
+                runner("archive", || assert_eq!(archive::salvage(10, black_box(s), black_box(&mut o1)), told)),
+                runner("Rust", || assert_eq!(salvage::salvage(10, black_box(s), black_box(&mut o2)), told)),
+                runner("memcpy", || black_box(&mut to[..]).copy_from_slice(black_box(&from))),
+            ],
+        );
+    }
+
     /// The shortest ways out: of a window of cells 9 to 11 at its end's low byte, and of a check at its control byte. One byte each.
     fn closing(&self, job: &str, check: bool, after: usize, wanted: u8) {
         let memory = noise(BIG, 9);
@@ -350,6 +375,8 @@ fn main() {
     bench.list(255, 8);
     bench.list(255, 40);
     bench.tidies();
+    bench.salvage("salvage, 255 of 40, the last cut", &windows(255, 40).0, &[40; 255], 20);
+    bench.salvage("salvage, 16,381 and a cut one", &[0, 9], &[BIG, 3], 1);
     bench.closing("closing at 11, 00 alone", false, 10, 0x00);
     bench.closing("closing of a check at 2", true, 1, 0x08);
     bench.stopped();

@@ -38,8 +38,9 @@ enum at6000_number {
     AT6000_BAD_DATA = 14,       /* writer: data length is not the sum of the windows */
     AT6000_TOO_SHORT = 15,      /* output or table shorter than needed */
     AT6000_MORE = 16,           /* slice used up, run still open */
-    AT6000_ILL_FORMED = 17      /* saved place not well formed; or a lent state whose unused kinds or registers are not zero or
+    AT6000_ILL_FORMED = 17,     /* saved place not well formed; or a lent state whose unused kinds or registers are not zero or
                                    whose open place is not well formed */
+    AT6000_NO_HEAD = 27         /* salvage: fewer than six bytes */
 };
 
 #define AT6000_SAVED_LENGTH 27
@@ -65,6 +66,7 @@ typedef struct at6000_fed { at6000_chain chain; at6000_answer answer; } at6000_f
 typedef struct at6000_written { uint8_t number; size_t length; } at6000_written;
 typedef struct at6000_hunted { uint8_t number, p, left; size_t length; } at6000_hunted;
 typedef struct at6000_listed { uint8_t number, windows, control, address[3]; uint32_t taken; } at6000_listed;
+typedef struct at6000_salvaged { uint8_t number, kept, announced, end; size_t offset, length; } at6000_salvaged;
 
 /* The layout is part of the interface: a line that does not compile says that this compiler has another. */
 #define AT6000_IS(name, fact) typedef char at6000_is_##name[(fact) ? 1 : -1]
@@ -77,6 +79,9 @@ AT6000_IS(written, sizeof(at6000_written) == 16 && offsetof(at6000_written, leng
 AT6000_IS(hunted, sizeof(at6000_hunted) == 16 && offsetof(at6000_hunted, p) == 1 && offsetof(at6000_hunted, left) == 2
                       && offsetof(at6000_hunted, length) == 8);
 AT6000_IS(listed, sizeof(at6000_listed) == 12 && offsetof(at6000_listed, address) == 3 && offsetof(at6000_listed, taken) == 8);
+AT6000_IS(salvaged, sizeof(at6000_salvaged) == 24 && offsetof(at6000_salvaged, kept) == 1
+                        && offsetof(at6000_salvaged, announced) == 2 && offsetof(at6000_salvaged, end) == 3
+                        && offsetof(at6000_salvaged, offset) == 8 && offsetof(at6000_salvaged, length) == 16);
 #undef AT6000_IS
 
 /* A new state: zero registers, no run open; kinds past the count are taken as zero. Memory is left as lent.
@@ -151,6 +156,16 @@ at6000_listed at6000_list(uint8_t kind, uint8_t mode, const uint8_t *s, size_t s
  * it all but the first preamble. A check of it counts a cell that the stream sends twice once. Gives 1 (unknown kind), the
  * stream's own 5, 8 to 12 or 16, then 15, else 0; outputs as for closing. */
 at6000_written at6000_tidy(uint8_t kind, const uint8_t *s, size_t s_len, uint8_t *out, size_t out_len);
+
+/* Salvages a stream in mode 1 for one device that breaks off or carries a bad byte: keeps the windows that are whole before its
+ * first refused byte or its end. Out comes a sound stream: control byte and address as they were, the right count, the kept
+ * windows in their order with null bytes 00, and 4D; loaded, it stores the kept windows and nothing else. Answers what was
+ * changed: the windows kept and the windows announced; offset, the byte of s after the last kept window, 6 where none is kept;
+ * end, the number of s itself: 0 where it was sound, else its refusal, 8 to 12, or 16 where it was used up. A sound stream comes
+ * out as it is up to its postamble, null bytes apart; what follows that is not looked at. The length is offset + 1, so that an
+ * output one byte longer than s always has room. It does not hunt: see tidy. Gives 1 (unknown kind), 27, 5, then 15, else 0;
+ * refused, all but the number is 0. Outputs as for closing. */
+at6000_salvaged at6000_salvage(uint8_t kind, const uint8_t *s, size_t s_len, uint8_t *out, size_t out_len);
 
 /* In place: the chain is updated where the caller keeps it. Numbers, answers and what is left are those of the calls above. */
 uint8_t at6000_start_in(at6000_chain *c, const uint8_t *mem, size_t mem_len, uint8_t mode, uint8_t check);

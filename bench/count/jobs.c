@@ -27,7 +27,7 @@ __attribute__((noinline)) static void end(void)
 
 /* What the next job is lent. */
 static at6000_chain c, kept;
-static uint8_t mem[4 * BIG], cells[MOST * 40 + BIG], stream[HUNTED], out[HUNTED], saved[AT6000_SAVED_LENGTH], number, check;
+static uint8_t mem[4 * BIG], cells[MOST * 40 + BIG], stream[ROOM], out[HUNTED], saved[AT6000_SAVED_LENGTH], number, check;
 static const uint8_t kinds[8] = {10, 10, 10, 10}, address[3];
 static size_t mem_len, length, windows, data_len;
 static uint16_t starts[MOST], ends[MOST], listed[2][MOST];
@@ -121,6 +121,7 @@ static void list(void)
 }
 
 static void tidy(void) { number = at6000_tidy(10, stream, length, out, sizeof out).number; }
+static void salvage(void) { number = at6000_salvage(10, stream, length, out, sizeof out).number; }
 
 /* Twice, from the same chain: once to warm up, then between the marks. */
 static void count(const char *name, void (*job)(void), int wanted)
@@ -199,6 +200,10 @@ int main(int argc, char **argv)
     count("writer, one window of 16,381", write, AT6000_DONE);
     count("lister, one window of 16,381", list, AT6000_DONE);
     count("tidy, one window of 16,381", tidy, AT6000_DONE);
+    stream[5]--; /* two windows announced, and of the second, 9 to 11, one byte of data there */
+    memcpy(stream + length - 1, "\0\0\11\0\13\21", 6);
+    length += 5;
+    count("salvage, 16,381 and a cut one", salvage, AT6000_DONE);
     lay(1, MOST, 40);
     count("writer, 255 windows of 40", write, AT6000_DONE);
     count("lister, 255 windows of 40", list, AT6000_DONE);
@@ -209,6 +214,9 @@ int main(int argc, char **argv)
     count("tidy, 255 windows of 40 half over", tidy, AT6000_DONE);
     move(20, 1);
     count("tidy, 255 half over, descending", tidy, AT6000_DONE);
+    move(64, 0);
+    length -= 21; /* 20 bytes of data, and the postamble */
+    count("salvage, 255 of 40, the last cut", salvage, AT6000_DONE);
     lay(1, MOST, 8);
     stop(6 + 13 + 4); /* the second window starts at 64, and its end's high byte is there */
     count("closing at 11, 00 alone", closing, AT6000_DONE);

@@ -11,8 +11,8 @@
 #include <string.h>
 
 enum { FRAME = 1 << 20, ARENA = 1 << 21, GUARD = 32, PIECES = 16 };
-enum { NEW, RESET, START, BYTE, SLICE, CLOSING, SAVE, PICK_UP, HUNT, WRITE, LIST, DROP, TIDY };
-enum { MADE = 1, FED, WRITTEN, LISTED, MEMORY, OUTPUT, STARTS, ENDS, OFFSETS, HUNTED };
+enum { NEW, RESET, START, BYTE, SLICE, CLOSING, SAVE, PICK_UP, HUNT, WRITE, LIST, DROP, TIDY, SALVAGE };
+enum { MADE = 1, FED, WRITTEN, LISTED, MEMORY, OUTPUT, STARTS, ENDS, OFFSETS, HUNTED, SALVAGED };
 enum { GUARD_TOUCHED = 1, INPUT_CHANGED = 2 };
 
 static void stop(const char *why) {
@@ -120,6 +120,17 @@ static void put_hunted(at6000_hunted hunted) {
     put8(hunted.p);
     put8(hunted.left);
     put(&wide, 8);
+}
+
+static void put_salvaged(at6000_salvaged salvaged) {
+    uint64_t offset = salvaged.offset, length = salvaged.length;
+    put8(SALVAGED);
+    put8(salvaged.number);
+    put8(salvaged.kept);
+    put8(salvaged.announced);
+    put8(salvaged.end);
+    put(&offset, 8);
+    put(&length, 8);
 }
 
 static void put_bytes(uint8_t tag, const void *bytes, size_t length) {
@@ -379,9 +390,30 @@ static void make_tidy(void) {
     }
 }
 
+/* What was salvaged is salvaged again, into an output of just its length. */
+static void make_salvage(void) {
+    uint8_t kind = take8(), *out;
+    size_t s_len = take32(), out_len;
+    const uint8_t *s = lend_const(take(s_len), s_len, 1);
+    at6000_salvaged salvaged;
+    out_len = take32();
+    out = lend_output(out_len, take8(), 1);
+    salvaged = at6000_salvage(kind, s, s_len, out, out_len);
+    put_salvaged(salvaged);
+    put_bytes(OUTPUT, out, out_len);
+    if (salvaged.number == AT6000_DONE && salvaged.length <= out_len) {
+        size_t length = salvaged.length;
+        const uint8_t *sound = lend_const(out, length, 1);
+        uint8_t *again = lend_output(length, 0, 1);
+        put_salvaged(at6000_salvage(kind, sound, length, again, length));
+        put_bytes(OUTPUT, again, length);
+    }
+}
+
 static void (*const calls[])(void) = {
     make_new, make_reset, make_start, make_byte, make_slice, make_closing,
-    make_save, make_pick_up, make_hunt, make_write, make_list, make_drop, make_tidy
+    make_save, make_pick_up, make_hunt, make_write, make_list, make_drop, make_tidy,
+    make_salvage
 };
 
 int main(void) {
@@ -401,7 +433,7 @@ int main(void) {
         skew++;
         put8(0);
         call = take8();
-        if (call > TIDY) stop("an unknown call");
+        if (call > SALVAGE) stop("an unknown call");
         calls[call]();
         if (request_at != request_length) stop("a request is too long");
         reply[0] = faults();

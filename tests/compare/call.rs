@@ -7,6 +7,7 @@ use crate::model::lister::{list, Listed, Tables};
 use crate::model::machine::{byte, drop, slice, start, Fed};
 use crate::model::numbers::DONE;
 use crate::model::output::Written;
+use crate::model::salvage::{salvage, Salvaged};
 use crate::model::saved::{pick_up, save};
 use crate::model::tidy::tidy;
 use crate::model::writer::{write, Order};
@@ -44,6 +45,7 @@ pub enum Call {
     List { kind: u8, mode: u8, stream: Vec<u8>, lengths: [usize; 3], fill: u8 },
     Drop { chain: Chain, memory: Vec<u8> },
     Tidy { kind: u8, stream: Vec<u8>, room: Room },
+    Salvage { kind: u8, stream: Vec<u8>, room: Room },
 }
 
 /// A part of a reply, in the order in which archive.c puts them.
@@ -54,6 +56,7 @@ pub enum Part {
     Written(Written),
     Hunted(Hunted),
     Listed(Listed),
+    Salvaged(Salvaged),
     Memory(Vec<u8>),
     Output(Vec<u8>),
     Starts(Vec<u16>),
@@ -69,6 +72,7 @@ impl Part {
             Part::Written(written) => Some(written.number),
             Part::Hunted(hunted) => Some(hunted.number),
             Part::Listed(listed) => Some(listed.number),
+            Part::Salvaged(salvaged) => Some(salvaged.number),
             _ => None,
         }
     }
@@ -79,6 +83,7 @@ pub fn written(parts: &[Part]) -> Vec<u8> {
     let (length, output) = match parts {
         [Part::Written(written), Part::Output(output), ..] => (written.length, output),
         [Part::Hunted(hunted), Part::Output(output), ..] => (hunted.length, output),
+        [Part::Salvaged(salvaged), Part::Output(output), ..] => (salvaged.length, output),
         _ => return Vec::new(),
     };
     output[..length as usize].to_vec()
@@ -153,6 +158,18 @@ pub fn by_model(call: &Call) -> Vec<Part> {
                 // "Tidying twice changes nothing": in an output of just that length.
                 let tidied = written(&parts);
                 parts.extend([Part::Written(once), Part::Output(tidied)]);
+            }
+            parts
+        }
+        Call::Salvage { kind, stream, room } => {
+            let mut output = room.bytes();
+            let once = salvage(*kind, stream, &mut output);
+            let mut parts = vec![Part::Salvaged(once), Part::Output(output)];
+            if once.number == DONE {
+                // "An accepted stream comes out the same": in an output of just that length.
+                let again = Salvaged { announced: once.kept, end: DONE, ..once };
+                let sound = written(&parts);
+                parts.extend([Part::Salvaged(again), Part::Output(sound)]);
             }
             parts
         }

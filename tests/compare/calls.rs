@@ -3,6 +3,7 @@
 use crate::call::{Call, Room};
 use crate::chains::{large, make_bad, register, sound, Lent};
 use crate::damage::damage;
+use crate::disks;
 use crate::model::chain::{state_number, Chain};
 use crate::model::closing::closing;
 use crate::model::numbers::{AT_DATA, AT_END_LOW, AT_START_LOW};
@@ -64,7 +65,7 @@ pub fn room(random: &mut Random, needed: usize) -> Room {
 
 /// A call of any name.
 pub fn any(random: &mut Random) -> Call {
-    match random.below(113) {
+    match random.below(121) {
         0..=5 => new(random),
         6..=10 => reset(random),
         11..=19 => start(random),
@@ -77,6 +78,7 @@ pub fn any(random: &mut Random) -> Call {
         89..=94 => stateless::write_call(random),
         95..=99 => stateless::list_call(random),
         100..=107 => stateless::tidy_call(random),
+        108..=115 => disks::salvage_call(random),
         _ => drop(random),
     }
 }

@@ -9,6 +9,8 @@ mod call;
 mod calls;
 mod chains;
 mod damage;
+mod disks;
+mod ends;
 mod meanings;
 mod model;
 mod patches;
@@ -86,7 +88,8 @@ struct Outcome {
     complaints: Vec<String>,
 }
 
-/// Makes the paper's cases, then random calls up to a number of them: single ones, long runs, patches written twice.
+/// Makes the paper's cases, then random calls up to a number of them: single ones, long runs, patches written twice,
+/// old disks.
 fn ask(seed: u64, calls: u64, to_archive: ChildStdin, to_comparer: Sender<Asked>) -> Outcome {
     let mut random = Random::new(seed);
     let mut asker = Asker { to_archive, to_comparer, batch: Vec::new(), tally: Tally::default(), asked: 0 };
@@ -96,6 +99,8 @@ fn ask(seed: u64, calls: u64, to_archive: ChildStdin, to_comparer: Sender<Asked>
             runs::run(&mut random, &mut |call| asker.make(call));
         } else if random.once_in(100) {
             complaints.extend(meanings::one_patch(&mut random, &mut |call| asker.make(call)));
+        } else if random.once_in(100) {
+            complaints.extend(disks::one_disk(&mut random, &mut |call| asker.make(call)));
         } else {
             let call = calls::any(&mut random);
             asker.make(call);

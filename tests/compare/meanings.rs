@@ -120,7 +120,7 @@ fn a_way(random: &mut Random, meaning: &Meaning) -> Option<Vec<u8>> {
 }
 
 /// The number that a write of the stream gives on one fresh device, and the memory that it leaves.
-fn loaded(make: &mut Make, kind: u8, stream: &[u8], memory: &[u8]) -> (u8, Vec<u8>) {
+pub fn loaded(make: &mut Make, kind: u8, stream: &[u8], memory: &[u8]) -> (u8, Vec<u8>) {
     let place = Place { running: 1, mode: 1, ..Place::default() };
     let chain = Chain { count: 1, kinds: [kind, 0, 0, 0, 0, 0, 0, 0], place, ..Chain::default() };
     match &make(Call::Slice { chain, memory: memory.to_vec(), stream: stream.to_vec() })[..] {

@@ -8,7 +8,7 @@ use crate::model::tidy::tidy;
 use crate::patches::Window;
 
 /// The windows of an accepted stream, where their data begin, and how many bytes are taken.
-fn windows_of(kind: u8, stream: &[u8]) -> (Vec<Window>, Vec<usize>, usize) {
+pub fn windows_of(kind: u8, stream: &[u8]) -> (Vec<Window>, Vec<usize>, usize) {
     let mut tables = Tables { starts: vec![0; 255], ends: vec![0; 255], offsets: vec![0; 255] };
     let listed = list(kind, 1, stream, &mut tables);
     let count = listed.windows as usize;
@@ -18,7 +18,7 @@ fn windows_of(kind: u8, stream: &[u8]) -> (Vec<Window>, Vec<usize>, usize) {
 }
 
 /// Whether some window b stands so to a window a before it in the stream.
-fn some(windows: &[Window], stands: fn(Window, Window) -> bool) -> bool {
+pub fn some(windows: &[Window], stands: fn(Window, Window) -> bool) -> bool {
     windows.iter().enumerate().any(|(index, &b)| windows[..index].iter().any(|&a| stands(a, b)))
 }
 

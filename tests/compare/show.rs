@@ -57,7 +57,9 @@ pub fn call(call: &Call) -> String {
             format!("kind {kind} mode {mode} stream {}\n    tables of {lengths:?} filled from {fill:02X}", hex(stream))
         }
         Call::Drop { chain, memory } => lent(chain, memory),
-        Call::Tidy { kind, stream, room: out } => format!("kind {kind} stream {}\n    {}", hex(stream), room(out)),
+        Call::Tidy { kind, stream, room: out } | Call::Salvage { kind, stream, room: out } => {
+            format!("kind {kind} stream {}\n    {}", hex(stream), room(out))
+        }
     }
 }
 
@@ -77,6 +79,7 @@ fn part(part: &Part) -> String {
         Part::Written(written) => format!("number {} length {}", written.number, written.length),
         Part::Hunted(hunted) => format!("{hunted:?}"),
         Part::Listed(listed) => format!("{listed:?}"),
+        Part::Salvaged(salvaged) => format!("{salvaged:?}"),
         Part::Memory(bytes) => format!("memory {}", hex(bytes)),
         Part::Output(bytes) => format!("output {}", hex(bytes)),
         Part::Starts(table) => format!("starts {table:?}"),

@@ -16,7 +16,7 @@ use crate::random::Random;
 use crate::streams;
 
 /// A kind: mostly the teaching array, at times a larger one or an unknown one.
-fn kind(random: &mut Random) -> u8 {
+pub fn kind(random: &mut Random) -> u8 {
     match random.below(40) {
         0 => random.byte(),
         1 => random.pick(&[1, 4, 6, 9, 11]),

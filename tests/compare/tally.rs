@@ -1,12 +1,13 @@
 //! How often each call gave each number, at which awaited bytes closing, byte and drop met an open run, which closing
-//! bytes were written where there is more than one sort, and which sorts of streams the tidier met; what a run of the
-//! comparison must have met.
+//! bytes were written where there is more than one sort, and which sorts of streams the tidier and salvage met; what a
+//! run of the comparison must have met.
 
 use crate::call::{written, Call, Part};
+use crate::ends;
 use crate::model::numbers::*;
-use crate::shapes::sorts;
+use crate::shapes;
 
-const NAMES: [&str; 16] = [
+const NAMES: [&str; 17] = [
     "new",
     "reset",
     "start",
@@ -20,6 +21,7 @@ const NAMES: [&str; 16] = [
     "list",
     "drop",
     "tidy",
+    "salvage",
     "start_in",
     "slice_in",
     "pick_up_in",
@@ -48,7 +50,7 @@ const AWAITED: [&str; 14] = [
 const CLOSED: [&str; 4] = ["at 2", "at 11: 00", "at 11: FF", "at 11: longer"];
 
 /// The numbers that each call can give: all of them must be met, and no other may be.
-const NUMBERS: [&[u8]; 16] = [
+const NUMBERS: [&[u8]; 17] = [
     &[0, 1],
     &[0, 1],
     &[0, 1, 2, 3, 17],
@@ -62,6 +64,7 @@ const NUMBERS: [&[u8]; 16] = [
     &[0, 1, 2, 5, 8, 9, 10, 11, 12, 15, 16],
     &[0, 1, 4, 17],
     &[0, 1, 5, 8, 9, 10, 11, 12, 15, 16],
+    &[0, 1, 5, 15, 27],
     &[0, 1, 2, 3, 17],
     &[0, 1, 4, 5, 6, 7, 8, 9, 10, 11, 12, 16, 17],
     &[0, 1, 3, 17],
@@ -86,26 +89,31 @@ const AT: [&[u8]; 14] = [
     &[0, 6, 7, 8, 9, 10, 16],
 ];
 
+/// The largest number.
+const MOST: usize = NO_HEAD as usize;
+
 const PICK_UP: usize = 7;
 const TIDY: usize = 12;
+const SALVAGE: usize = 13;
 
 /// The row of a call, and that of the call made right after it: its in-place twin, the pick-up of what was saved, or
-/// the tidying of what was tidied.
+/// the tidying of what was tidied, the salvage of what was salvaged.
 pub fn rows(call: &Call) -> (usize, Option<usize>) {
     match call {
         Call::New { .. } => (0, None),
         Call::Reset { .. } => (1, None),
-        Call::Start { .. } => (2, Some(13)),
+        Call::Start { .. } => (2, Some(14)),
         Call::Byte { .. } => (3, None),
-        Call::Slice { .. } => (4, Some(14)),
+        Call::Slice { .. } => (4, Some(15)),
         Call::Closing { .. } => (5, None),
         Call::Save { .. } => (6, Some(PICK_UP)),
-        Call::PickUp { .. } => (PICK_UP, Some(15)),
+        Call::PickUp { .. } => (PICK_UP, Some(16)),
         Call::Hunt { .. } => (8, None),
         Call::Write { .. } => (9, None),
         Call::List { .. } => (10, None),
         Call::Drop { .. } => (11, None),
         Call::Tidy { .. } => (TIDY, Some(TIDY)),
+        Call::Salvage { .. } => (SALVAGE, Some(SALVAGE)),
     }
 }
 
@@ -113,17 +121,31 @@ pub fn name(call: &Call) -> &'static str {
     NAMES[rows(call).0]
 }
 
+/// How often each sort was met.
+type Sorts = Vec<(&'static str, u64)>;
+
+fn meet(sorts: &mut Sorts, met: Vec<(&'static str, bool)>) {
+    if sorts.is_empty() {
+        *sorts = met.iter().map(|&(name, _)| (name, 0)).collect();
+    }
+    for ((_, count), (_, met)) in sorts.iter_mut().zip(met) {
+        *count += met as u64;
+    }
+}
+
 #[derive(Default)]
 pub struct Tally {
-    numbers: [[u64; 18]; 16],
+    numbers: [[u64; MOST + 1]; 17],
     /// as in RUNS
     awaited: [[u64; 14]; 6],
     /// The numbers of byte, by awaited byte.
-    at: [[u64; 18]; 14],
+    at: [[u64; MOST + 1]; 14],
     /// The sorts of CLOSED, each in a write and in a check.
     closed: [[u64; 2]; 4],
     /// The accepted streams that the tidier was given, by sort.
-    tidied: Vec<(&'static str, u64)>,
+    tidied: Sorts,
+    /// The streams that salvage was given, by sort.
+    salvaged: Sorts,
 }
 
 /// The row of CLOSED that these closing bytes belong to.
@@ -147,13 +169,10 @@ impl Tally {
             self.numbers[row][second as usize] += 1;
         }
         if let Call::Tidy { kind, stream, room } = call {
-            let sorts = sorts(*kind, stream, room);
-            if self.tidied.is_empty() {
-                self.tidied = sorts.iter().map(|&(name, _)| (name, 0)).collect();
-            }
-            for ((_, count), (_, met)) in self.tidied.iter_mut().zip(sorts) {
-                *count += met as u64;
-            }
+            meet(&mut self.tidied, shapes::sorts(*kind, stream, room));
+        }
+        if let Call::Salvage { kind, stream, room } = call {
+            meet(&mut self.salvaged, ends::sorts(*kind, stream, room));
         }
         let (table, place) = match call {
             Call::Closing { chain, .. } => (0, &chain.place),
@@ -193,6 +212,10 @@ impl Tally {
         for (name, count) in &self.tidied {
             println!("{name:<38}{count:>8}");
         }
+        println!("Streams that salvage was given, by sort:");
+        for (name, count) in &self.salvaged {
+            println!("{name:<46}{count:>8}");
+        }
     }
 
     /// What should have been met and was not, or the other way round.
@@ -213,12 +236,20 @@ impl Tally {
         for (name, _) in self.tidied.iter().filter(|(_, count)| *count == 0) {
             complaints.push(format!("the tidier was never given a stream of the sort: {name}"));
         }
+        for (name, _) in self.salvaged.iter().filter(|(_, count)| *count == 0) {
+            complaints.push(format!("salvage was never given a stream of the sort: {name}"));
+        }
         complaints
     }
 }
 
 /// Holds counts of numbers to the numbers that can be given.
-fn hold<const N: usize>(names: &[&str; N], counts: &[[u64; 18]; N], can: &[&[u8]; N], complaints: &mut Vec<String>) {
+fn hold<const N: usize>(
+    names: &[&str; N],
+    counts: &[[u64; MOST + 1]; N],
+    can: &[&[u8]; N],
+    complaints: &mut Vec<String>,
+) {
     for row in 0..N {
         for (number, &count) in counts[row].iter().enumerate() {
             match (can[row].contains(&(number as u8)), count) {
@@ -234,8 +265,11 @@ fn table<const N: usize, const M: usize>(names: &[&str; N], counts: &[[u64; M]; 
     let line = |name: &str, entries: Vec<String>| {
         println!("{name:<14}{}", entries.iter().map(|entry| format!("{entry:>7}")).collect::<String>())
     };
-    line("", (0..M).map(|number| number.to_string()).collect());
+    // A number that no row has is left out.
+    let met: Vec<usize> = (0..M).filter(|&number| counts.iter().any(|row| row[number] > 0)).collect();
+    let entry = |count: u64| if count == 0 { ".".to_string() } else { count.to_string() };
+    line("", met.iter().map(|number| number.to_string()).collect());
     for (name, counts) in names.iter().zip(counts) {
-        line(name, counts.iter().map(|&count| if count == 0 { ".".to_string() } else { count.to_string() }).collect());
+        line(name, met.iter().map(|&number| entry(counts[number])).collect());
     }
 }

@@ -7,6 +7,7 @@ use crate::model::hunt::Hunted;
 use crate::model::lister::Listed;
 use crate::model::machine::{Answer, Fed};
 use crate::model::output::Written;
+use crate::model::salvage::Salvaged;
 
 const MADE: u8 = 1;
 const FED: u8 = 2;
@@ -18,6 +19,7 @@ const STARTS: u8 = 7;
 const ENDS: u8 = 8;
 const OFFSETS: u8 = 9;
 const HUNTED: u8 = 10;
+const SALVAGED: u8 = 11;
 
 fn put16(to: &mut Vec<u8>, value: u16) {
     to.extend(value.to_le_bytes());
@@ -119,6 +121,11 @@ pub fn put_request(to: &mut Vec<u8>, call: &Call) {
             put_bytes(to, stream);
             put_room(to, room);
         }
+        Call::Salvage { kind, stream, room } => {
+            to.extend([13, *kind]);
+            put_bytes(to, stream);
+            put_room(to, room);
+        }
     }
     let length = (to.len() - front - 4) as u32;
     to[front..front + 4].copy_from_slice(&length.to_le_bytes());
@@ -163,6 +170,11 @@ fn put_part(to: &mut Vec<u8>, part: &Part) {
             to.extend([LISTED, listed.number, listed.windows, listed.control]);
             to.extend(listed.address);
             put32(to, listed.taken as usize);
+        }
+        Part::Salvaged(salvaged) => {
+            to.extend([SALVAGED, salvaged.number, salvaged.kept, salvaged.announced, salvaged.end]);
+            to.extend(salvaged.offset.to_le_bytes());
+            to.extend(salvaged.length.to_le_bytes());
         }
         Part::Memory(bytes) => put_table(to, MEMORY, bytes, |&byte| [byte]),
         Part::Output(bytes) => put_table(to, OUTPUT, bytes, |&byte| [byte]),
@@ -268,6 +280,14 @@ impl<'a> Reader<'a> {
                 control: self.byte()?,
                 address: [self.byte()?, self.byte()?, self.byte()?],
                 taken: self.number(4)? as u32,
+            }),
+            SALVAGED => Part::Salvaged(Salvaged {
+                number: self.byte()?,
+                kept: self.byte()?,
+                announced: self.byte()?,
+                end: self.byte()?,
+                offset: self.number(8)?,
+                length: self.number(8)?,
             }),
             MEMORY => Part::Memory(self.table(1)?.iter().map(|&entry| entry as u8).collect()),
             OUTPUT => Part::Output(self.table(1)?.iter().map(|&entry| entry as u8).collect()),

@@ -8,16 +8,17 @@ import sys
 
 DOC = "docs/READING.md"
 BEGIN, END = "<!-- counted by tests/docs/count.py -->\n", "<!-- end of count -->\n"
-CALLS = ["chain", "cells", "awaited", "machine", "saved", "closing", "hunt", "grammar", "writer", "reader", "lister", "tidy"]
+CALLS = ["chain", "cells", "awaited", "machine", "saved", "closing", "hunt", "grammar", "writer", "reader", "lister", "tidy", "salvage"]
 REST = ["at6000", "listing", "demands"]
 PARTS = [
-    ("no promise: contracts of private functions", ["chain/ByRow", "machine/Block", "closing/Put", "tidy/InOrder", "tidy/Steps", "listing/ListedTo"]),
+    ("no promise: contracts of private functions", ["chain/ByRow", "machine/Block", "closing/Put", "tidy/InOrder", "tidy/Steps", "salvage/Steps", "listing/ListedTo"]),
     ("demand 1", ["chain/WellFormed", "chain/Table", "chain/Bytes", "demands/Demand1", "demands/Formed", "demands/Table", "demands/ByteTable", "demands/ListTable"]),
     ("demands 2 and 3", ["grammar/Fits", "grammar/Stores", "demands/Loader", "demands/Demand2", "demands/Files", "demands/Second", "demands/Demand3", "demands/Ours"]),
     ("wish 4", ["demands/WherePreamble"]),
     ("wish 8", ["demands/Shortest"]),
     ("wish 9", ["demands/Patches", "demands/WrittenOnce"]),
     ("wish 2", ["demands/OneFile"]),
+    ("wish 12", ["demands/OldDisks"]),
     ("the loaders shut out", ["demands/Wrong"]),
     ("the twelve cases", ["demands/Cases"]),
     ("the listing program", ["listing/Lines", "listing/Program"]),

@@ -2,7 +2,7 @@
 crates' code or definitions.
 
 It is short and slow on purpose: each function follows the paper's sentences in their order, which are quoted beside it. cases.py works
-out with it what the program `cases` must print, listing.py what the program `listing` must. Each of the thirteen calls answers its number
+out with it what the program `cases` must print, listing.py what the program `listing` must. Each of the fourteen calls answers its number
 first. Taken from the interface, not from the paper: the names of the state's fields, `running` and `check` as bytes of which any but 0 and
 1 is not well formed in a lent state, and that start takes any check but 0 for a check. Where the paper leaves a choice, the readings in
 docs/DECISIONS.md are followed.
@@ -560,6 +560,51 @@ def tidy(kind, s, out):
         for i in range(first, last + 1):
             values[i] = s[offset + i - first]
     return put(out, tidied(control, address, values))
+
+
+# ---- Salvage
+
+
+def salvage(kind, s, out):
+    """ "Refusals: 1 for the kind, 27 for fewer than six bytes, 5 for the preamble, then 15." Answers number, windows kept and announced, number of the
+    stream's end, offset, length and the output. """
+
+    def refused(number):
+        return number, 0, 0, 0, 0, 0, out
+
+    if kind not in SIZES:
+        return refused(1)
+    if len(s) < 6:
+        return refused(27)
+    if s[0] != PREAMBLE:
+        return refused(5)
+    # "the number of the stream's end: 0, its refusal or 16": the machine of one reset device is fed, byte by byte
+    mem = bytearray(SIZES[kind])
+    _, c = start(Chain(1, [kind] + [0] * 7), mem, 1, 0)
+    # "offset of the byte after the last kept window (6 if none)"
+    kept, window, offset, end = [], [], 6, GOES_ON
+    for i, b in enumerate(s):
+        awaited = c.place.awaited
+        end = take(c, mem, b)
+        if end != GOES_ON:
+            break
+        # a window is its bytes from the null byte on, and it is whole when the machine has had the last of them
+        if awaited == NULL:
+            window = []
+        if awaited >= NULL:
+            window.append(b)
+        if awaited == DATA and c.place.awaited != DATA:
+            kept.append(window)
+            offset = i + 1
+    # "Write a sound stream with the right count and 4D"; "null bytes zeroed"
+    stream = [*s[:5], len(kept) ^ 0xFF]
+    for window in kept:
+        stream += [0x00, *window[1:]]
+    number, length, out = put(out, stream + [POSTAMBLE])
+    if number != 0:
+        return refused(number)
+    # "windows kept, windows announced"
+    return 0, len(kept), s[5] ^ 0xFF, end, offset, length, out
 
 
 # ---- The listing program

@@ -17,6 +17,7 @@ each), of two tables and of the arguments (two bytes each), high byte first. A l
     b, f   number taken mismatches state      byte, slice
     c, v, w, t   number length     closing, save, write, tidy
     h   number p left length       hunt
+    k   number kept announced end offset length        salvage: what is whole is kept
     l   number windows control address taken starts ends offset ..     list; entries that were not written are ee
 
 A state is count, kinds, registers; running, mode, check, device, awaited, windows left, control; start end next; taken, mismatches. Fields that a place gets
@@ -79,7 +80,7 @@ class Script:
     """The script so far, with the state and the memory that the model has reached. Each call's first argument is the number it must give."""
 
     def __init__(self):
-        self.stdin, self.stdout, self.calls, self.given = bytearray(), [], 0, set()
+        self.stdin, self.stdout, self.calls, self.given, self.ends = bytearray(), [], 0, set(), set()
         self.c, self.mem = Chain(), bytes(CELLS)
 
     # ---- lines
@@ -206,6 +207,21 @@ class Script:
     def tidy(self, number, kind, s, want=None, room=80):
         s = bytes_of(s)
         return self.written("t", number, want, at6000.tidy(kind, s, self.blank(room)), room, args=s, a=kind)
+
+    def salvage(self, number, kind, s, told=(0, 0, 0, 0), want="", room=None):
+        """`told` is windows kept, windows announced, number of the stream's end and offset; a refusal has 0 for all, and writes nothing. As much room as the
+        stream has bytes and one more, where none is said."""
+        s = bytes_of(s)
+        room = len(s) + 1 if room is None else room
+        got, *figures, length, out = at6000.salvage(kind, s, self.blank(room))
+        self.agree((number, *told), (got, *figures))
+        self.agree(bytes_of(want), out[:length])
+        kept, announced, end, offset = figures
+        if got == 0:
+            self.ends.add(end)
+        text = f" {got:02x} {kept:02x} {announced:02x} {end:02x} {offset:08x} {length:08x}{changes('>', out, self.blank(room))}"
+        self.line("k", text, s, a=kind, out=room)
+        return out[:length]
 
     def list(self, number, kind, mode, s, want=None, tables=(4, 4, 4)):
         """`want` is windows, control byte, address and bytes taken, then the windows as start, end, offset, where they are said."""
@@ -1565,6 +1581,165 @@ def cases_tidy(s):
             s.tidy(number, 0, patch(*given), room=room)
 
 
+def salvages(s, given, kept, announced, end, offset, kind=0):
+    """Of this stream these windows are kept. Salvaged again, what came out stays as it is. A byte more room than the stream has, just enough, one less."""
+    want = patch(*kept)
+    told = len(kept), announced, end, offset
+    assert len(want) == offset + 1
+    s.salvage(0, kind, given, told, want)
+    s.salvage(0, kind, given, told, want, room=len(want))
+    s.salvage(15, kind, given, room=len(want) - 1)
+    s.salvage(0, kind, want, (len(kept), len(kept), 0, offset), want)
+
+
+def announcing(n, s):
+    """A stream with another number of windows announced."""
+    return s[:5] + bytes([0xFF - n]) + s[6:]
+
+
+def cases_salvage(s):
+    two = [(9, 11, "112233"), (20, 21, "4455")]
+    sent = stream(section([window(*two[0], null=0xB2), window(*two[1], null=0x4D)], 0xA5, "010203"))
+    s.say("salvage, 0: 'keep the whole windows before the first refused byte or the end': cut at every byte of a stream of two windows; 'null bytes zeroed'")
+    for k in range(6, 14):
+        salvages(s, sent[:k], [], 2, 16, 6)
+    for k in range(14, 21):
+        salvages(s, sent[:k], two[:1], 2, 16, 14)
+    s.say("salvage, 0: all windows are whole, and only the postamble is not there; the output is a byte longer than the stream; with it, accepted")
+    salvages(s, sent[:21], two, 2, 16, 21)
+    salvages(s, sent, two, 2, 0, 21)
+    s.say("salvage, 0: the bytes that come out, spelled: 'a sound stream with the right count and 4D'")
+    s.salvage(0, 0, "B2 00 000000 FD 77 0009 000B 112233 88 000A", (1, 2, 16, 14), "B2 00 000000 FE 00 0009 000B 112233 4D")
+    s.salvage(0, 0, "B2 00 000000 FD 77 0009 000B 1122", (0, 2, 16, 6), "B2 00 000000 FF 4D")
+    s.say("salvage, 0: 'An accepted stream comes out the same up to its postamble, null bytes zeroed': it is what the writer writes from its listing")
+    s.list(0, 0, 1, sent, (2, 0xA5, "010203", 22, (9, 11, 11), (20, 21, 19)))
+    assert s.write(0, 0, 1, 0xA5, "010203", [9, 20], [11, 21], "1122334455") == s.salvage(0, 0, sent, (2, 2, 0, 21), patch(*two))
+    s.say("salvage, 0: no windows announced: 0, 16, 8, 10; a window that stands there is none")
+    empty = bytes_of("B2 00 000000 FF")
+    for rest, end in (("4D", 0), ("", 16), ("00", 8), ("FE", 8), ("B2", 10), (window(9, 9, "11").hex() + "4D", 8)):
+        s.salvage(0, 0, empty + bytes_of(rest), (0, 0, end, 6), EMPTY)
+    s.salvage(0, 0, "B2 04 000000 FF B2", (0, 0, 9, 6), "B2 04 000000 FF 4D")
+    s.say("salvage, 0, end 11: 'carry a bad address': the start of the first, the second and the third window; whole windows after it are not kept")
+    for start in (52, 53, 255, 256, 0x1234, 65535):
+        bad = bytes_of("5A") + start.to_bytes(2, "big") + bytes_of("000A")
+        salvages(s, announcing(1, patch())[:6] + bad, [], 1, 11, 6)
+        salvages(s, announcing(3, patch(two[0])[:-1] + bad + window(*two[1]) + b"\x4d"), two[:1], 3, 11, 14)
+        salvages(s, announcing(3, patch(*two)[:-1] + bad), two, 3, 11, 21)
+    s.say("salvage, 0, end 12: 'carry a bad address': an end below its start, an end not below the size; in the first window, in the second, in the third")
+    for start, end in ((11, 10), (11, 0), (51, 50), (9, 52), (51, 52), (0, 255), (9, 256), (9, 65535)):
+        bad = bytes_of("5A") + start.to_bytes(2, "big") + end.to_bytes(2, "big") + bytes_of("66")
+        salvages(s, announcing(1, patch())[:6] + bad, [], 1, 12, 6)
+        salvages(s, announcing(3, patch(two[0])[:-1] + bad + window(*two[1]) + b"\x4d"), two[:1], 3, 12, 14)
+        salvages(s, announcing(3, patch(*two)[:-1] + bad), two, 3, 12, 21)
+    s.say("salvage, 0: the refused byte is the second of a start or an end: cut before it, the end is 16")
+    bad = bytes_of("5A 1234")
+    for k, end in ((2, 16), (3, 11)):
+        salvages(s, announcing(2, patch(two[0])[:-1] + bad[:k]), two[:1], 2, end, 14)
+    bad = bytes_of("5A 000B 000A")
+    for k, end in ((4, 16), (5, 12)):
+        salvages(s, announcing(2, patch(two[0])[:-1] + bad[:k]), two[:1], 2, end, 14)
+    s.say("salvage, 0, end 8: a bad check byte; all windows are kept")
+    for byte in (0x00, 0x01, 0x0D, 0x4C, 0x4E, 0xB1, 0xB3, 0xCD, 0xFF):
+        salvages(s, patch(*two)[:-1] + bytes([byte]), two, 2, 8, 21)
+        salvages(s, patch(*two)[:-1] + bytes([byte]) + patch(*two), two, 2, 8, 21)
+    s.say("salvage, 0, end 9 and 10: the preamble of a second device, by bit 2 of the control byte; of that device nothing is kept")
+    for control, end in ((0x00, 10), (0x04, 9), (0xFB, 10), (0xFF, 9), (0x18, 10), (0x1C, 9)):
+        first, second = (section([window(*w)], control, "FFB24D") for w in two)
+        want = stream(first)
+        s.salvage(0, 0, stream(first, second), (1, 1, end, 14), want)
+        s.salvage(0, 0, stream(first)[:-1] + b"\xb2", (1, 1, end, 14), want)
+        s.salvage(0, 0, want, (1, 1, 0, 14), want)
+    s.say("salvage, 0: bytes after the postamble are not looked at, whatever they are; nor is their number any matter")
+    for after in ("00", "4D", "B2", "FFFFFFFFFFFFFFFF", patch(*two).hex()):
+        salvages(s, patch(*two) + bytes_of(after), two, 2, 0, 21)
+        salvages(s, patch() + bytes_of(after), [], 0, 0, 6)
+    s.say("salvage, 0: control byte and address as they were, any bits: it is read as a write into a reset device")
+    for control in (0x01, 0x02, 0x04, 0x08, 0x10, 0x20, 0x40, 0x80, 0xB2, 0xFF):
+        for address in ("000000", "B24DFF", "010203"):
+            given = stream(section([window(*w, null=0xFF) for w in two], control, address))
+            want = stream(section([window(*two[0])], control, address))
+            s.salvage(0, 0, given[:-2], (1, 2, 16, 14), want)
+    s.say("salvage, 0: bytes that look like framing are data: B2, 4D, FF, 00")
+    looks = [(20, 22, "4DB200"), (10, 12, "FFB24D"), (5, 5, "4D")]
+    salvages(s, patch(*looks), looks, 3, 0, 28)
+    salvages(s, patch(*looks)[:-2], looks[:2], 3, 16, 22)
+    s.say("salvage, 0: 255 announced and few there; 128 announced, 254; one more than there are")
+    for n in (255, 254, 128, 3):
+        for k in (0, 1, 2):
+            given = announcing(n, patch(*two[:k]))
+            salvages(s, given[:-1], two[:k], n, 16, (6, 14, 21)[k])
+            # the postamble is taken for a null byte
+            salvages(s, given, two[:k], n, 16, (6, 14, 21)[k])
+            salvages(s, given + bytes_of("FFFF"), two[:k], n, 11, (6, 14, 21)[k])
+    s.say("salvage, 0: fewer announced than there are: the others are a bad check byte")
+    salvages(s, announcing(1, patch(*two)), two[:1], 1, 8, 14)
+    s.salvage(0, 0, announcing(0, patch(*two)), (0, 0, 8, 6), patch())
+    s.say("salvage, 0: 255 announced and all there, whole, accepted, and cut in the last one and in the first")
+    many = [(i % 52, i % 52, [i]) for i in range(255)]
+    salvages(s, patch(*many), many, 255, 0, 1536)
+    salvages(s, patch(*many)[:-1], many, 255, 16, 1536)
+    for k in range(2, 8):
+        salvages(s, patch(*many)[:-k], many[:254], 255, 16, 1530)
+    for k in range(6, 12):
+        salvages(s, patch(*many)[:k], [], 255, 16, 6)
+    s.say("salvage, 0: windows that overlap, touch, repeat and descend stay as they are, in their order")
+    over = [(9, 12, "11223344"), (11, 14, "A1A2A3A4"), (9, 9, "55"), (15, 15, "66"), (9, 12, "11223344"), (0, 51, range(0x80, 0x80 + 52)), (3, 4, "7788")]
+    salvages(s, patch(*over)[:-2], over[:-1], 7, 16, 102)
+    salvages(s, patch(*over), over, 7, 0, 109)
+    for kind, size in SIZES.items():
+        s.say(f"salvage, 0: a whole device, then a broken window; the largest start and end, and one more: kind {kind}, {size} cells")
+        whole = (0, size - 1, [(i * i) % 251 for i in range(size)])
+        salvages(s, announcing(2, patch(whole)[:-1] + bytes_of("00 0000 0001 11")), [whole], 2, 16, size + 11, kind)
+        s.salvage(0, kind, patch(whole)[:-2], (0, 1, 16, 6), patch())
+        last = (size - 1, size - 1, "11")
+        salvages(s, patch(last), [last], 1, 0, 12, kind)
+        salvages(s, patch(last, (size, size, "22")), [last], 2, 11, 12, kind)
+        salvages(s, patch(last, (size - 1, size, "2233")), [last], 2, 12, 12, kind)
+    s.say("salvage, 0: a window on both sides of a high byte, and longer than 256 cells")
+    wide = [(254, 257, "11223344"), (100, 699, [i % 253 for i in range(600)])]
+    salvages(s, patch(*wide), wide, 2, 0, 620, 2)
+    salvages(s, patch(*wide)[:-2], wide[:1], 2, 16, 15, 2)
+    s.say("'Loading the result stores exactly the kept windows', later over earlier: what the stream itself stores up to the offset, the bytes after it not fed")
+    given = announcing(9, patch(*over)[:-1]) + bytes_of("00 0005 0007 9999")
+    left = []
+    for fed, number in ((s.salvage(0, 0, given, (7, 9, 16, 109), patch(*over)), 0), (given[:109], 16), (given, 16)):
+        s.new(0, 1, [0])
+        s.fill(0x01, 0x03)
+        s.start(0, 1)
+        s.feed(number, fed)
+        left.append(s.mem)
+    assert left[0] == left[1] != left[2]
+    s.say("salvage, 1: an unknown kind, each of them, before everything")
+    for kind in sorted(set(range(256)) - set(SIZES)):
+        s.salvage(1, kind, patch(*two), room=80)
+    s.salvage(1, 1, "", room=0)
+    s.salvage(1, 255, "00", room=80)
+    s.salvage(1, 4, "00 00 000000 FF 4D", room=0)
+    s.say("salvage, 27: 'fewer than six bytes', before 5 and before 15")
+    for k in range(6):
+        for room in (80, 7, 6, 0):
+            s.salvage(27, 0, sent[:k], room=room)
+            s.salvage(27, 10, b"\x00" * k, room=room)
+    s.say("salvage, 5: the first byte is not B2, before 15; it does not hunt")
+    for byte in (0x00, 0x4D, 0xB0, 0xB3, 0x32, 0xFF):
+        for room in (80, 6, 0):
+            s.salvage(5, 0, bytes([byte]) + patch(*two)[1:], room=room)
+            s.salvage(5, 0, bytes([byte]) + b"\x00" * 5, room=room)
+    s.salvage(5, 0, "00" + patch(*two).hex())
+    s.salvage(5, 0, at_bit(3, patch(*two)))
+    s.say("salvage, 0: in mode 1 a second preamble is a control byte")
+    s.salvage(0, 0, "B2 B2 000000 FF 4D", (0, 0, 0, 6), "B2 B2 000000 FF 4D")
+    s.salvage(0, 0, "B2 B2 00 000000 FF 4D", (0, 255, 16, 6), "B2 B2 000000 FF 4D")
+    s.say("salvage, 15: 'output .. shorter than needed' by what is kept, however long the stream is; what lies behind the needed front part stays as lent")
+    for given, kept, end in ((sent[:13], [], 16), (sent[:20], two[:1], 16), (sent, two, 0), (sent[:-1] + b"\x00" * 30, two, 8)):
+        want = patch(*kept)
+        told = len(kept), 2, end, len(want) - 1
+        for room in (len(want), len(want) + 1, len(want) + 9, 80):
+            s.salvage(0, 0, given, told, want, room=room)
+        for room in (len(want) - 1, len(want) - 2, 6, 1, 0):
+            s.salvage(15, 0, given, room=room)
+
+
 def ending(s):
     """The number with which closing bytes end a run, by the awaited byte: 5, 7, 0, 11 or 12 as the byte refused is a preamble, the control byte of a
     check, none, a start or an end."""
@@ -1701,14 +1876,15 @@ def cases_drop(s):
 
 ALL = [cases_new, cases_reset, cases_start, cases_bytes, cases_preamble, cases_control, cases_windows, cases_check_byte, cases_check, cases_guide]
 ALL += [cases_chains, cases_closing, cases_closing_11, cases_closing_2, cases_saved, cases_picked_up, cases_hunt, cases_write, cases_list]
-ALL += [cases_stops, cases_drop, cases_tidy]
+ALL += [cases_stops, cases_drop, cases_tidy, cases_salvage]
 
 
 # Every number that each call can give, by the paper's table; each is given at least once.
 FED = {0, 1, 4, 5, 6, 7, 8, 9, 10, 11, 12, 16, 17}
 CAN_GIVE = {"n": {0, 1}, "r": {0, 1}, "s": {0, 1, 2, 3, 17}, "b": FED, "f": FED, "c": {0, 1, 4, 15, 17}, "v": {0, 1, 4, 15, 17}, "p": {0, 1, 3, 17}}
 CAN_GIVE |= {"d": {0, 1, 4, 17}, "h": {0, 5, 15}, "w": {0, 1, 2, 11, 12, 13, 14, 15}, "l": {0, 1, 2, 5, 8, 9, 10, 11, 12, 15, 16}}
-CAN_GIVE |= {"t": {0, 1, 5, 8, 9, 10, 11, 12, 15, 16}}
+CAN_GIVE |= {"t": {0, 1, 5, 8, 9, 10, 11, 12, 15, 16}, "k": {0, 1, 5, 15, 27}}
+ENDS = {0, 8, 9, 10, 11, 12, 16}
 
 
 def main():
@@ -1716,6 +1892,7 @@ def main():
     for cases in ALL:
         cases(s)
     assert s.given == {(letter, n) for letter, numbers in CAN_GIVE.items() for n in numbers}
+    assert s.ends == ENDS
     here = Path(__file__).resolve().parents[2] / "crates" / "cases"
     files = {here / "stdin": bytes(s.stdin), here / "stdout": ("\n".join(s.stdout) + "\n").encode()}
     if "--check" in sys.argv[1:]:

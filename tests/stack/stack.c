@@ -61,6 +61,7 @@ CALL(hunt, .number, (s, s_len, out, out_len))
 CALL(write, .number, (kind, mode, 0, address, starts, tables, ends, tables, mem, BIG, out, out_len))
 CALL(list, .number, (kind, mode, s, s_len, listed, 1, listed + 1, 1, &offset, tables))
 CALL(tidy, .number, (kind, s, s_len, out, out_len))
+CALL(salvage, .number, (kind, s, s_len, out, out_len))
 #define ON_A_CHAIN \
     &a_start, &a_start_in, &a_slice, &a_slice_in, &a_byte, &a_closing, &a_save, &a_drop, &a_pick_up, &a_pick_up_in
 
@@ -140,24 +141,28 @@ static void stop(size_t n)
 
 int main(void)
 {
-    const struct call *all[] = {&a_new, &a_reset, ON_A_CHAIN, &a_hunt, &a_write, &a_list, &a_tidy};
+    const struct call *all[] = {&a_new, &a_reset, ON_A_CHAIN, &a_hunt, &a_write, &a_list, &a_tidy, &a_salvage};
 
     /* within the window, the places between its second byte and its last are alike */
     for (check = 0; check < 2; check++)
         for (size_t n = 0; n <= LENGTH; n = n == HEAD + 1 ? HEAD + BIG - 1 : n + 1)
             stop(n);
     s = stream, s_len = LENGTH;
-    GIVES(AT6000_DONE, &a_hunt, &a_write, &a_list, &a_tidy);
+    GIVES(AT6000_DONE, &a_hunt, &a_write, &a_list, &a_tidy, &a_salvage);
     tables = out_len = 0;
-    GIVES(AT6000_TOO_SHORT, &a_hunt, &a_list, &a_tidy);
+    GIVES(AT6000_TOO_SHORT, &a_hunt, &a_list, &a_tidy, &a_salvage);
     GIVES(AT6000_BAD_DATA, &a_write);
     tables = 1, out_len = LENGTH - 1;
-    GIVES(AT6000_TOO_SHORT, &a_hunt, &a_write, &a_tidy);
+    GIVES(AT6000_TOO_SHORT, &a_hunt, &a_write, &a_tidy, &a_salvage);
     s_len--;
     GIVES(AT6000_MORE, &a_list, &a_tidy);
+    GIVES(AT6000_TOO_SHORT, &a_salvage); /* its window is whole, and 4D is not there */
+    s_len--;
+    GIVES(AT6000_DONE, &a_salvage); /* no window is */
+    s_len++;
     stream[0] = 0xb2 << 5 & 255, stream[1] = 0xb2 >> 3; /* the preamble at bit 5 */
     GIVES(AT6000_DONE, &a_hunt);
-    GIVES(AT6000_NO_PREAMBLE, &a_list, &a_tidy);
+    GIVES(AT6000_NO_PREAMBLE, &a_list, &a_tidy, &a_salvage);
     s++;
     GIVES(AT6000_NO_PREAMBLE, &a_hunt, &a_list, &a_tidy);
     ends[0]++;
@@ -168,9 +173,17 @@ int main(void)
     lay_many(EACH / 2);
     GIVES(AT6000_DONE, &a_tidy);
     lay_many(EACH + 2);
-    GIVES(AT6000_DONE, &a_tidy);
+    GIVES(AT6000_DONE, &a_tidy, &a_salvage);
+    many[MANY - 1] = 0; /* a bad check byte */
+    GIVES(AT6000_DONE, &a_salvage);
+    s_len = MANY - 2; /* the last window is cut */
+    GIVES(AT6000_DONE, &a_salvage);
+    many[MANY - 1 - EACH - 2] = 0xff; /* its end is refused */
+    GIVES(AT6000_DONE, &a_salvage);
+    s_len = 5;
+    GIVES(AT6000_NO_HEAD, &a_salvage);
     kind = 11;
-    GIVES(AT6000_BAD_CHAIN, &a_write, &a_list, &a_tidy);
+    GIVES(AT6000_BAD_CHAIN, &a_write, &a_list, &a_tidy, &a_salvage);
     for (size_t i = 0; i < sizeof all / sizeof *all; i++)
         printf("%s %zu bytes\n", all[i]->name, all[i]->most);
     return 0;

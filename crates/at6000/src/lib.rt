@@ -7,6 +7,7 @@ use hunt::Hunted;
 use lister::Listed;
 use machine::Answer;
 use machine::Fed;
+use salvage::Salvaged;
 ghost use mathlib.Core.Path.{_≡_};
 ghost use Rattle.at6000.specs.InPlace.{StartIn, SliceIn, PickUpIn};
 ghost use Rattle.chain.specs.Calls.{New, Reset};
@@ -17,6 +18,7 @@ ghost use Rattle.hunt.specs.Hunt.{Hunt};
 ghost use Rattle.writer.specs.Write.{Write};
 ghost use Rattle.lister.specs.Listing.{Lists};
 ghost use Rattle.tidy.specs.Tidy.{Tidies};
+ghost use Rattle.salvage.specs.Salvage.{Salvages};
 
 #[no_mangle]
 pub extern "C" fn at6000_new(count: u8, kinds: &[u8; 8], mem: &[u8]) -> Made
@@ -125,6 +127,13 @@ pub extern "C" fn at6000_tidy(kind: u8, s: &[u8], out: &mut [u8]) -> Written
     ensures { λ r. ⌜ Tidies kind (now (s .entry)) (now (out .entry)) r (now (out .exit)) ⌝ }
 {
     tidy::tidy(kind, s, out)
+}
+
+#[no_mangle]
+pub extern "C" fn at6000_salvage(kind: u8, s: &[u8], out: &mut [u8]) -> Salvaged
+    ensures { λ r. ⌜ Salvages kind (now (s .entry)) (now (out .entry)) r (now (out .exit)) ⌝ }
+{
+    salvage::salvage(kind, s, out)
 }
 
 // For a controller's main loop. Each in-place call is its call by value, with the chain stored back and the answer handed on.

@@ -220,6 +220,15 @@ pub fn on_output(call: Call, c: Chain, mem: &[u8], args: &[u8], out: &mut [u8]) 
             let w = tidy::tidy(call.a, args, out);
             written(w.number, w.length);
         }
+        b'k' => {
+            let r = salvage::salvage(call.a, args, out);
+            show::byte(r.number);
+            show::byte(r.kept);
+            show::byte(r.announced);
+            show::byte(r.end);
+            length(r.offset);
+            length(r.length);
+        }
         b'w' | b'l' => {
             on_tables(call, args, out);
         }

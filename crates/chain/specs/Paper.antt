@@ -1,4 +1,4 @@
--- The constants of document 01, by name. Assumes nothing.
+-- The constants of documents 01 and 02, by name. Assumes nothing.
 use Prim.Native.Nat.{ℕ, _/_, _%_}
 use mathlib.Core.Bool.{Bool}
 use lib.Dec.{eqb}
@@ -143,6 +143,10 @@ more = 16
 
 abbrev pub ill-formed : ℕ
 ill-formed = 17
+
+-- document 02, wish 12
+abbrev pub no-head : ℕ
+no-head = 27
 
 -- control bits by their weight: bit 2 ends the stream at this device, bit 3 bars checks, bit 4 bars later runs
 abbrev pub bit2 : ℕ

@@ -1,4 +1,4 @@
-// The constants of document 01, by name; specs/Paper.antt has the same.
+// The constants of documents 01 and 02, by name; specs/Paper.antt has the same.
 
 // the stream's own bytes
 pub const PREAMBLE: u8 = 0xb2;
@@ -95,6 +95,9 @@ pub const TOO_SHORT: u8 = 15;
 pub const MORE: u8 = 16;
 
 pub const ILL_FORMED: u8 = 17;
+
+// document 02, wish 12
+pub const NO_HEAD: u8 = 27;
 
 // control bits by their weight: bit 2 ends the stream at this device, bit 3 bars checks, bit 4 bars later runs
 pub const BIT_2: u8 = 4;

@@ -8,6 +8,7 @@ use Rattle.demands.proofs.numbers.HuntTables.{hunt-table}
 use Rattle.demands.proofs.numbers.WriteTables.{write-table}
 use Rattle.demands.proofs.numbers.ListTables.{list-table, list-taken, list-refused}
 use Rattle.demands.proofs.numbers.TidyTables.{tidy-table, tidy-refused}
+use Rattle.demands.proofs.numbers.SalvageTables.{salvage-table, salvage-refused}
 use Rattle.demands.proofs.numbers.Refused.{new-refused, reset-refused, start-refused, drop-refused, drop-done, byte-ended, slice-refused, slice-ended, more-open, closing-refused, save-refused, pick-up-refused, hunt-refused, write-refused}
 
 pub demand1 : Demand1
@@ -30,6 +31,7 @@ demand1 =
             list = list-table;
             list-taken = list-taken;
             tidy = tidy-table;
+            salvage = salvage-table;
           };
       refusals =
           record {
@@ -49,5 +51,6 @@ demand1 =
             write = write-refused;
             list = list-refused;
             tidy = tidy-refused;
+            salvage = salvage-refused;
           };
     }

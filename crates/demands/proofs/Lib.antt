@@ -6,6 +6,7 @@ pub mod Demand2
 pub mod stops
 pub mod patches
 pub mod tidy
+pub mod salvage
 pub mod WherePreamble
 pub mod Promised
 pub mod EightDevices

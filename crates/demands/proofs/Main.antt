@@ -26,9 +26,10 @@ use Rattle.demands.specs.Shortest.{Amended, Shortest}
 use Rattle.demands.specs.Patches.{PatchesExactly, Apart, AnyOrder, Stacked}
 use Rattle.demands.specs.WrittenOnce.{WrittenAsOne}
 use Rattle.demands.specs.OneFile.{KeepsTidy, AcceptedExactly, TidiesOnly, TidiesAll, OneFile, Twice, OnlyTidied}
+use Rattle.demands.specs.OldDisks.{KeepsSalvage, InOrderExactly, AsMended, AsFarAsWhole, SoundAlways, MachineGives, OneList, OneStream, SameComesOut, EndsAccepted}
 use Rattle.demands.specs.Ours.{ours}
 use Rattle.demands.specs.Cases.{table, All}
-use Rattle.demands.specs.Wrong.{constant, idle, taking, undoing, eager, exclusiveEnd, plainCount, barring, checkWrites, unloading, loadingFirst, earlierWins, wiping, untidied, earlierKept, touchingApart, shortClosing, offering, OlderAtEnd, OlderAtControl, offsetsFromFirst, leftBefore, fromOne, toldRefused}
+use Rattle.demands.specs.Wrong.{constant, idle, taking, undoing, eager, exclusiveEnd, plainCount, barring, checkWrites, unloading, loadingFirst, earlierWins, wiping, untidied, earlierKept, touchingApart, announcedCount, filledUp, takenOffset, acceptedAlone, otherOrder, shortClosing, offering, OlderAtEnd, OlderAtControl, offsetsFromFirst, leftBefore, fromOne, toldRefused}
 use Rattle.demands.proofs.Demand1.{demand1}
 use Rattle.demands.proofs.Demand2.{demand2}
 use Rattle.demands.proofs.loads.TwelveCases.{twelve}
@@ -41,6 +42,13 @@ use Rattle.demands.proofs.patches.TwoPatches.{any-order-out}
 use Rattle.demands.proofs.tidy.OneMeaning.{accepted-exactly, tidies-all}
 use Rattle.demands.proofs.tidy.OnlyAccepted.{tidies-only, tidy-kept}
 use Rattle.demands.proofs.tidy.NoOther.{only-tidied, one-file-each, twice}
+use Rattle.demands.proofs.salvage.SoundStream.{in-order-exactly, sound-always, salvage-kept}
+use Rattle.demands.proofs.salvage.AsFar.{as-far-as-whole}
+use Rattle.demands.proofs.salvage.MendedStream.{as-mended}
+use Rattle.demands.proofs.salvage.SameStream.{same-comes-out}
+use Rattle.demands.proofs.salvage.EndsAccepted.{ends-accepted}
+use Rattle.demands.proofs.salvage.AsMachine.{machine-gives}
+use Rattle.demands.proofs.salvage.OneList.{one-list, one-stream}
 use Rattle.demands.proofs.WherePreamble.{where-began, where-only}
 use Rattle.demands.proofs.wrong.Shut.{constant-out, idle-out, taken-out, per-slice-out}
 use Rattle.demands.proofs.wrong.Eager.{eager-out}
@@ -48,6 +56,7 @@ use Rattle.demands.proofs.wrong.Readings.{exclusive-end-out, plain-coun
 use Rattle.demands.proofs.wrong.OlderClosing.{older-end-out, older-control-out, nothing-out}
 use Rattle.demands.proofs.wrong.PatchOrders.{wiping-apart-out, wiping-stacked-out, barring-stacked-out, offsets-written-out}
 use Rattle.demands.proofs.wrong.Tidiers.{untidied-out, earlier-kept-out, touching-apart-out}
+use Rattle.demands.proofs.wrong.Salvagers.{announced-count-out, filled-up-out, taken-offset-out, accepted-alone-out, other-order-out}
 use Rattle.demands.proofs.wrong.HuntFigures.{left-before-out, from-one-out, told-refused-out}
 
 -- 1. 'It takes every byte string, mode, chain and saved place. Public calls ask nothing of the caller. Each refusal has its number in
@@ -170,6 +179,61 @@ our-tidier =
       tidied-twice ours (demand2 .a) tidies,
     )
 
+-- Document 02, wish 12: 'From a one-device mode 1 stream whose first six bytes are in order', and from nothing else. The numbers, '1 for the kind, 27 for
+-- fewer than six bytes, 5 for the preamble, then 15', are in the first demand. Of every loader whose salvage keeps its promise
+pub six-in-order : (l : Loader) → KeepsSalvage l → InOrderExactly l
+six-in-order = in-order-exactly
+
+-- 'Write a sound stream with the right count and 4D': the given bytes up to the told offset with that count and 4D are an accepted stream, and its bytes are
+-- written, null bytes zeroed
+pub stream-mended : (l : Loader) → KeepsSalvage l → AsMended l
+stream-mended = as-mended
+
+-- 'keep the whole windows before the first refused byte or the end': what is salvaged leaves the cells and registers that the stream itself had left up to the
+-- byte after the last of them. From here on with clause (a)
+pub as-far-as-kept : (l : Loader) → Demand2a l → KeepsSalvage l → AsFarAsWhole l
+as-far-as-kept = as-far-as-whole
+
+-- 'Loading the result stores exactly the kept windows.'
+pub stream-sound : (l : Loader) → Demand2a l → KeepsSalvage l → SoundAlways l
+stream-sound = sound-always
+
+-- 'and a change list: windows kept, windows announced, offset of the byte after the last kept window (6 if none), and the number of the stream's end: 0, its
+-- refusal or 16': what our machine gives. It leaves one list, of any loader
+pub list-as-machine : MachineGives ours
+list-as-machine = machine-gives
+
+pub one-change-list : (l : Loader) → OneList l
+one-change-list = one-list
+
+-- and with that list one stream: no other bytes can be written
+pub one-stream-only : (l : Loader) → OneStream l
+one-stream-only = one-stream
+
+-- 'An accepted stream comes out the same up to its postamble, null bytes zeroed.' With clause (c) it is what the writer writes from its listing
+pub same-stream : (l : Loader) → Demand2a l → Demand2c l → KeepsSalvage l → SameComesOut l
+same-stream = same-comes-out
+
+-- and where the list says end 0, the stream begins with an accepted one
+pub accepted-at-end : (l : Loader) → KeepsSalvage l → EndsAccepted l
+accepted-at-end = ends-accepted
+
+-- so it is of ours; BrokenStreams has streams that broke off, were refused and were accepted, by computation
+pub our-salvage : KeepsSalvage ours × InOrderExactly ours × AsMended ours × AsFarAsWhole ours × SoundAlways ours × MachineGives ours × OneList ours
+    × OneStream ours × SameComesOut ours × EndsAccepted ours
+our-salvage = (
+  salvage-kept,
+  six-in-order ours salvage-kept,
+  stream-mended ours salvage-kept,
+  as-far-as-kept ours (demand2 .a) salvage-kept,
+  stream-sound ours (demand2 .a) salvage-kept,
+  list-as-machine,
+  one-change-list ours,
+  one-stream-only ours,
+  same-stream ours (demand2 .a) (demand2 .c) salvage-kept,
+  accepted-at-end ours salvage-kept,
+)
+
 -- The twelve cases of the paper, one table
 pub twelve-cases : All 1 table
 twelve-cases = twelve
@@ -215,6 +279,13 @@ pub record ShutOut : Type 0 where
   pub tidies-nothing : OneFile untidied → ⊥
   pub keeps-earlier : TidiesAll earlierKept → ⊥
   pub leaves-touching : TidiesAll touchingApart → ⊥
+  -- document 02, wish 12: the announced count; the window that is not whole, filled up; the bytes taken for the offset; accepted streams alone;
+  -- two windows in the other order
+  pub counts-announced : SoundAlways announcedCount → ⊥
+  pub fills-up : SoundAlways filledUp → ⊥
+  pub offset-taken : MachineGives takenOffset → ⊥
+  pub salvages-accepted : InOrderExactly acceptedAlone → ⊥
+  pub other-order : AsMended otherOrder → ⊥
   -- the hunt: the bits before the preamble for those left; positions from 1; a position with a refusal
   pub left-before : SaysWhere leftBefore → ⊥
   pub from-one : SaysWhere fromOne → ⊥
@@ -247,6 +318,11 @@ shut-out =
       tidies-nothing = untidied-out;
       keeps-earlier = earlier-kept-out;
       leaves-touching = touching-apart-out;
+      counts-announced = announced-count-out;
+      fills-up = filled-up-out;
+      offset-taken = taken-offset-out;
+      salvages-accepted = accepted-alone-out;
+      other-order = other-order-out;
       left-before = left-before-out;
       from-one = from-one-out;
       told-refused = told-refused-out;

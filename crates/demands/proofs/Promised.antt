@@ -14,7 +14,9 @@ use Rattle.hunt.specs.Hunt.{Hunt}
 use Rattle.lister.specs.declared.Listed.{Listed}
 use Rattle.lister.specs.Listing.{Lists}
 use Rattle.tidy.specs.Tidy.{Tidies}
-use Rattle.demands.specs.Loader.{AfterSlice, AfterWrite, AfterHunt, AfterList}
+use Rattle.salvage.specs.declared.Salvaged.{Salvaged}
+use Rattle.salvage.specs.Salvage.{Salvages}
+use Rattle.demands.specs.Loader.{AfterSlice, AfterWrite, AfterHunt, AfterList, AfterSalvage}
 use Rattle.demands.specs.Ours.{ours}
 
 pub start-ours : (c : Chain) (m : List ℕ) (mode check : ℕ) (r : Made) → Start c m mode check r → r ≡ ours .start c m mode check
@@ -43,3 +45,7 @@ list-ours kind mode s starts ends offsets r a b d h = rw (h .answer, h .starts-l
 pub tidy-ours : (kind : ℕ) (s out : List ℕ) (r : Written) (out′ : List ℕ) → Tidies kind s out r out′
     → _≡_ {A = AfterWrite} (record { written = r; out = out′ }) (ours .tidy kind s out)
 tidy-ours kind s out r out′ h = rw (h .answer, h .output)
+
+pub salvage-ours : (kind : ℕ) (s out : List ℕ) (r : Salvaged) (out′ : List ℕ) → Salvages kind s out r out′
+    → _≡_ {A = AfterSalvage} (record { salvaged = r; out = out′ }) (ours .salvage kind s out)
+salvage-ours kind s out r out′ h = rw (h .answer, h .output)

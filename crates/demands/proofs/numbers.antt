@@ -8,5 +8,6 @@ pub mod ByteNumbers
 pub mod SliceTables
 pub mod ListTables
 pub mod TidyTables
+pub mod SalvageTables
 pub mod Refused
 pub mod InPlace

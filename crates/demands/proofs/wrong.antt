@@ -7,3 +7,4 @@ pub mod HuntFigures
 pub mod PatchOrders
 pub mod OlderClosing
 pub mod Tidiers
+pub mod Salvagers

@@ -1,4 +1,4 @@
--- The first demand in one statement: each call gives each number of document 01 exactly under its condition there, and what a refusal leaves. Assumes nothing.
+-- The first demand in one statement: each call gives each number of documents 01 and 02 exactly under its condition there, and what a refusal leaves. Assumes nothing.
 use Prim.Native.Nat.{ℕ, suc, _+_, _%_, _^_, _<_}
 use mathlib.Core.Logic.{_≢_}
 use mathlib.Core.Path.{_≡_}
@@ -20,9 +20,11 @@ use Rattle.lister.specs.declared.Listed.{Listed}
 use Rattle.reader.specs.Stream.{preambleAt}
 use Rattle.lister.specs.Listing.{listedOf, listed, Lists}
 use Rattle.tidy.specs.Tidy.{tidyOf, tidyOutput}
+use Rattle.salvage.specs.declared.Salvaged.{Salvaged}
+use Rattle.salvage.specs.Salvage.{salvageOf, salvageOutput}
 use Rattle.chain.specs.Bytes.{Bytes}
 use Rattle.chain.specs.Table.{Table, chainTable, openTable, Running}
-use Rattle.demands.specs.Table.{startTable, closingTable, saveTable, PickUpNumbers, huntTable, writeTable}
+use Rattle.demands.specs.Table.{startTable, closingTable, saveTable, PickUpNumbers, huntTable, writeTable, salvageTable}
 use Rattle.demands.specs.ByteTable.{byteTable, sliceNumber, sliceTable, ByteNumbers}
 use Rattle.demands.specs.ListTable.{listTable, ListTaken, tidyTable}
 
@@ -46,6 +48,7 @@ pub record Numbers : Type 0 where
   pub list-taken : (kind mode : ℕ) (s : List ℕ) → Bytes s → (starts ends offsets : List ℕ)
       → ListTaken kind mode s (listedOf s (preambleAt mode) (listed kind mode s starts ends offsets) .taken)
   pub tidy : (kind : ℕ) (s : List ℕ) → Bytes s → (out : List ℕ) → Table (tidyOf kind s (length out) .number) (tidyTable kind s out) done
+  pub salvage : (kind : ℕ) (s out : List ℕ) → Table (salvageOf kind s (length out) .number) (salvageTable kind s out) done
 
 -- what a slice that 1, 17 or 4 refuses leaves
 pub record AsLent (c : Chain) (m s : List ℕ) : Type 0 where
@@ -87,6 +90,14 @@ pub record HuntRefused (out : List ℕ) (h : Hunted) (out′ : List ℕ) : Type 
   pub left : h .left ≡ 0
   pub nothing : NothingWritten (h .length) out out′
 
+-- refused salvage: the change list is 0 but for its number, and the output is as lent
+pub record SalvageRefused (out : List ℕ) (r : Salvaged) (out′ : List ℕ) : Type 0 where
+  pub kept : r .kept ≡ 0
+  pub announced : r .announced ≡ 0
+  pub end : r .end ≡ 0
+  pub offset : r .offset ≡ 0
+  pub nothing : NothingWritten (r .length) out out′
+
 pub record Refusals : Type 0 where
   -- a refused new state is all zero
   pub new : (count : ℕ) (kinds m : List ℕ) → newOf count kinds (length m) .number ≢ done → newOf count kinds (length m) .chain ≡ noChain
@@ -117,6 +128,8 @@ pub record Refusals : Type 0 where
       → ListRefused starts ends offsets r starts′ ends′ offsets′
   pub tidy : (kind : ℕ) (s out : List ℕ) → tidyOf kind s (length out) .number ≢ done
       → NothingWritten (tidyOf kind s (length out) .length) out (tidyOutput kind s out)
+  pub salvage : (kind : ℕ) (s out : List ℕ) → salvageOf kind s (length out) .number ≢ done
+      → SalvageRefused out (salvageOf kind s (length out)) (salvageOutput kind s out)
 
 pub record Demand1 : Type 0 where
   pub numbers : Numbers

@@ -12,6 +12,7 @@ pub mod Files
 pub mod Patches
 pub mod WrittenOnce
 pub mod OneFile
+pub mod OldDisks
 pub mod Second
 pub mod Ours
 pub mod Wrong

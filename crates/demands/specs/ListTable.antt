@@ -15,9 +15,12 @@ use Rattle.chain.specs.WellFormed.{Known, Between}
 use Rattle.chain.specs.Table.{Claim, _when_, NoMode}
 use Rattle.demands.specs.ByteTable.{sliceNumber}
 
--- one freshly reset device, a write started on it
+-- one freshly reset device, and a write started on it
+abbrev pub freshDevice : ℕ → Chain
+freshDevice kind = newOf 1 (kind ∷ replicate 7 0) (sizeOf kind) .chain
+
 abbrev pub freshRun : ℕ → ℕ → Chain
-freshRun kind mode = startOf (newOf 1 (kind ∷ replicate 7 0) (sizeOf kind) .chain) (sizeOf kind) mode writing .chain
+freshRun kind mode = startOf (freshDevice kind) (sizeOf kind) mode writing .chain
 
 -- the stream's own number: what the machine gives for it
 abbrev pub ownNumber : ℕ → ℕ → List ℕ → ℕ

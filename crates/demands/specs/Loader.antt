@@ -11,6 +11,7 @@ use Rattle.chain.specs.State.{stateNumber, feedNumber}
 use Rattle.machine.specs.declared.Fed.{Fed}
 use Rattle.hunt.specs.declared.Hunted.{Hunted}
 use Rattle.lister.specs.declared.Listed.{Listed}
+use Rattle.salvage.specs.declared.Salvaged.{Salvaged}
 use Rattle.chain.specs.Bytes.{Bytes}
 
 -- a slice's answer and the memory it leaves
@@ -39,6 +40,15 @@ pub record AfterList : Type 0 where
   pub ends : List ℕ
   pub offsets : List ℕ
 
+-- salvage's answer and the output it leaves
+pub record AfterSalvage : Type 0 where
+  pub salvaged : Salvaged
+  pub out : List ℕ
+
+-- the bytes that it wrote
+abbrev pub rescued : AfterSalvage → List ℕ
+rescued w = take (w .salvaged .length) (w .out)
+
 -- the parameters stand in the calls' own order
 pub record Loader : Type 0 where
   pub start : Chain → List ℕ → ℕ → ℕ → Made
@@ -48,22 +58,26 @@ pub record Loader : Type 0 where
   pub list : ℕ → ℕ → List ℕ → List ℕ → List ℕ → List ℕ → AfterList
   pub hunt : List ℕ → List ℕ → AfterHunt
   pub tidy : ℕ → List ℕ → List ℕ → AfterWrite
+  pub salvage : ℕ → List ℕ → List ℕ → AfterSalvage
 
 -- a loader with one call replaced
 abbrev pub with·slice : Loader → (Chain → List ℕ → List ℕ → AfterSlice) → Loader
-with·slice l f = record { start = l .start; slice = f; closing = l .closing; write = l .write; list = l .list; hunt = l .hunt; tidy = l .tidy }
+with·slice l f = record { start = l .start; slice = f; closing = l .closing; write = l .write; list = l .list; hunt = l .hunt; tidy = l .tidy; salvage = l .salvage }
 
 abbrev pub with·closing : Loader → (Chain → List ℕ → List ℕ → AfterWrite) → Loader
-with·closing l f = record { start = l .start; slice = l .slice; closing = f; write = l .write; list = l .list; hunt = l .hunt; tidy = l .tidy }
+with·closing l f = record { start = l .start; slice = l .slice; closing = f; write = l .write; list = l .list; hunt = l .hunt; tidy = l .tidy; salvage = l .salvage }
 
 abbrev pub with·list : Loader → (ℕ → ℕ → List ℕ → List ℕ → List ℕ → List ℕ → AfterList) → Loader
-with·list l f = record { start = l .start; slice = l .slice; closing = l .closing; write = l .write; list = f; hunt = l .hunt; tidy = l .tidy }
+with·list l f = record { start = l .start; slice = l .slice; closing = l .closing; write = l .write; list = f; hunt = l .hunt; tidy = l .tidy; salvage = l .salvage }
 
 abbrev pub with·hunt : Loader → (List ℕ → List ℕ → AfterHunt) → Loader
-with·hunt l f = record { start = l .start; slice = l .slice; closing = l .closing; write = l .write; list = l .list; hunt = f; tidy = l .tidy }
+with·hunt l f = record { start = l .start; slice = l .slice; closing = l .closing; write = l .write; list = l .list; hunt = f; tidy = l .tidy; salvage = l .salvage }
 
 abbrev pub with·tidy : Loader → (ℕ → List ℕ → List ℕ → AfterWrite) → Loader
-with·tidy l f = record { start = l .start; slice = l .slice; closing = l .closing; write = l .write; list = l .list; hunt = l .hunt; tidy = f }
+with·tidy l f = record { start = l .start; slice = l .slice; closing = l .closing; write = l .write; list = l .list; hunt = l .hunt; tidy = f; salvage = l .salvage }
+
+abbrev pub with·salvage : Loader → (ℕ → List ℕ → List ℕ → AfterSalvage) → Loader
+with·salvage l f = record { start = l .start; slice = l .slice; closing = l .closing; write = l .write; list = l .list; hunt = l .hunt; tidy = l .tidy; salvage = f }
 
 -- a lent chain that no number refuses, with no run open: eight kinds and registers, and bytes, as the types of the code say
 pub record Idle (c : Chain) (m : List ℕ) : Type 0 where

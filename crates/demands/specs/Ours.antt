@@ -8,6 +8,7 @@ use Rattle.reader.specs.Stream.{preambleAt}
 use Rattle.lister.specs.Listing.{listed, listing, listedOf, startsOf, endsOf, offsetsOf}
 use Rattle.hunt.specs.Hunt.{huntOf, huntOut}
 use Rattle.tidy.specs.Tidy.{tidyOf, tidyOutput}
+use Rattle.salvage.specs.Salvage.{salvageOf, salvageOutput}
 use Rattle.demands.specs.Loader.{Loader}
 
 abbrev pub ours : Loader
@@ -32,4 +33,5 @@ ours =
           };
       hunt = λ s out. record { hunted = huntOf s (length out); out = huntOut s out };
       tidy = λ kind s out. record { written = tidyOf kind s (length out); out = tidyOutput kind s out };
+      salvage = λ kind s out. record { salvaged = salvageOf kind s (length out); out = salvageOutput kind s out };
     }

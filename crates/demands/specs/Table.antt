@@ -1,11 +1,11 @@
--- Document 01's table of numbers for each call, its conditions in its own order. Bytes and slices are in ByteTable. Assumes nothing.
+-- The table of numbers for each call, its conditions in the order of document 01, and for salvage of document 02. Bytes and slices are in ByteTable. Assumes nothing.
 use Prim.Native.Nat.{ℕ, _+_, _*_, _<_, _≤_}
 use mathlib.Core.Logic.{_↔_, _⊎_, _≢_}
 use mathlib.Core.Path.{_≡_}
 use mathlib.Core.List.{List, [], _∷_}
 use lib.ListN.{length, getD}
 use Rattle.chain.specs.declared.Chain.{Chain}
-use Rattle.chain.specs.Paper.{preamble, closed, opened, done, bad-chain, bad-mode, run-open, no-preamble, bad-start, bad-end, bad-tables, bad-data, too-short, ill-formed}
+use Rattle.chain.specs.Paper.{preamble, closed, opened, done, bad-chain, bad-mode, run-open, no-preamble, bad-start, bad-end, bad-tables, bad-data, too-short, ill-formed, no-head}
 use Rattle.chain.specs.Kinds.{sizeOf}
 use Rattle.chain.specs.WellFormed.{Known, BadChain, IllFormed}
 use Rattle.chain.specs.Table.{Claim, _when_, stateTable, openTable, NoMode}
@@ -16,6 +16,8 @@ use Rattle.hunt.specs.Bits.{byteAt}
 use Rattle.hunt.specs.Hunt.{nowhere, huntedBytes}
 use Rattle.writer.specs.Stream.{streamOf}
 use Rattle.writer.specs.Write.{most-windows, sumOf}
+use Rattle.reader.specs.Stream.{head-length}
+use Rattle.salvage.specs.Salvage.{salvaged}
 use Rattle.demands.specs.Formed.{WellSaved}
 
 -- start: 2, and 3 while a run is open
@@ -84,4 +86,15 @@ writeTable kind mode control address starts ends bytes out =
     ∷ (bad-end when FirstEnd (sizeOf kind) starts ends)
     ∷ (bad-data when length bytes ≢ sumOf starts ends)
     ∷ (too-short when length out < length (streamOf mode control address starts ends bytes))
+    ∷ []
+
+-- ---- salvage
+
+-- 'Refusals: 1 for the kind, 27 for fewer than six bytes, 5 for the preamble, then 15'
+abbrev pub salvageTable : ℕ → List ℕ → List ℕ → List Claim
+salvageTable kind s out =
+    (bad-chain when (Known kind → ⊥))
+    ∷ (no-head when length s < head-length)
+    ∷ (no-preamble when getD s 0 0 ≢ preamble)
+    ∷ (too-short when length out < length (salvaged (sizeOf kind) s))
     ∷ []

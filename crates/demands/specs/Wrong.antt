@@ -2,16 +2,15 @@
 use Prim.Native.Nat.{ℕ, zero, suc, _+_, _-_, _%_}
 use mathlib.Core.Bool.{Bool, false, _&&_, _||_, not}
 use mathlib.Core.Path.{_≡_}
-use mathlib.Core.List.{List, [], _∷_, map, reverse}
+use mathlib.Core.List.{List, [], _∷_, _++_, map, reverse}
 use lib.Dec.{eqb, ltb}
-use lib.ListN.{length, getD, take, replicate}
+use lib.ListN.{length, getD, set, take, replicate}
 use Rattle.chain.specs.declared.Chain.{Chain}
 use Rattle.chain.specs.declared.Place.{Place}
 use Rattle.chain.specs.Paper.{postamble, no-windows, at·preamble, at·control, at·address, at·count, at·null, at·end-low, at·data, at·check, writing, checking, first-mode, two-preambles, done, barred, no-check, too-short, more, B4}
 use Rattle.chain.specs.Rules.{pick, _gives_, firstOf}
-use Rattle.chain.specs.Output.{onDone, writtenOf, outputOf}
+use Rattle.chain.specs.Output.{over, onDone, writtenOf, outputOf}
 use Rattle.chain.specs.Kinds.{sizeOf}
-use Rattle.chain.specs.Calls.{noChain}
 use Rattle.chain.specs.Set.{with·check, with·awaited, with·left, with·end, with·place}
 use Rattle.chain.specs.State.{openRules, feedNumber}
 use Rattle.chain.specs.Window.{highByte, lowByte, withLow}
@@ -21,14 +20,15 @@ use Rattle.machine.specs.Calls.{answered, fedOf}
 use Rattle.closing.specs.Closing.{storedRegister, window, refusesFF}
 use Rattle.hunt.specs.declared.Hunted.{Hunted}
 use Rattle.hunt.specs.Hunt.{foundAt}
-use Rattle.grammar.specs.Sent.{bytesOf}
-use Rattle.grammar.specs.Stream.{Window, streamSent}
-use Rattle.writer.specs.Stream.{sectionOf}
-use Rattle.reader.specs.Stream.{controlAt, streamStop}
+use Rattle.grammar.specs.Stream.{Window}
+use Rattle.reader.specs.Windows.{nextAt}
+use Rattle.reader.specs.Stream.{streamStop}
 use Rattle.tidy.specs.Spans.{Span, span, has, covered}
-use Rattle.reader.specs.Given.{givenOf}
+use Rattle.reader.specs.Given.{givenOf, streamWith}
 use Rattle.tidy.specs.Tidy.{lastByte, windowOver, tidyWindows, tidyRules}
-use Rattle.demands.specs.Loader.{Loader, AfterSlice, with·slice, with·closing, with·list, with·hunt, with·tidy}
+use Rattle.salvage.specs.declared.Salvaged.{Salvaged}
+use Rattle.salvage.specs.Salvage.{offsetOf, salvaged, changesOf}
+use Rattle.demands.specs.Loader.{Loader, AfterSlice, AfterSalvage, with·slice, with·closing, with·list, with·hunt, with·tidy, with·salvage}
 use Rattle.demands.specs.Ours.{ours}
 
 -- ours, with what a slice leaves altered
@@ -140,11 +140,7 @@ untidied = tidyingTo (λ kind s. take (streamStop (sizeOf kind) first-mode s .ta
 
 -- other windows, made of the device's size and the given ones; control byte and external address kept
 abbrev pub rewindowed : (ℕ → List Window → List Window) → Loader
-rewindowed f =
-    tidyingTo
-    (λ kind s.
-    let x = sectionOf (controlAt s 0) (getD s 2 0 ∷ getD s 3 0 ∷ getD s 4 0 ∷ []) (f (sizeOf kind) (givenOf (sizeOf kind) s)) in
-    bytesOf (streamSent noChain first-mode x []))
+rewindowed f = tidyingTo (λ kind s. streamWith s (f (sizeOf kind) (givenOf (sizeOf kind) s)))
 
 -- of overlapping windows the earlier wins: as if the last came first
 abbrev pub earlierKept : Loader
@@ -167,6 +163,58 @@ overlapSpans ws (suc n) a =
 
 abbrev pub touchingApart : Loader
 touchingApart = rewindowed (λ size ws. map (windowOver (lastByte ws)) (overlapSpans ws size 0))
+
+-- ---- document 02, wish 12: salvagers
+
+-- ours, with what it answers and leaves altered
+abbrev pub resalvaging : (ℕ → List ℕ → List ℕ → AfterSalvage → AfterSalvage) → Loader
+resalvaging f = with·salvage ours (λ kind s out. f kind s out (ours .salvage kind s out))
+
+-- a change list with another offset
+abbrev pub with·offset : Salvaged → ℕ → Salvaged
+with·offset r n =
+    record { number = r .number; kept = r .kept; announced = r .announced; end = r .end; offset = onDone (r .number) n; length = r .length }
+
+-- writes the count that was announced, and not that of the windows kept
+abbrev pub announcedCount : Loader
+announcedCount =
+    resalvaging
+    (λ kind s out w.
+    record { salvaged = w .salvaged; out = pick (eqb (w .salvaged .number) done) (set (w .out) 5 (getD s 5 0)) (w .out) })
+
+-- keeps the window that is not whole too, the bytes that it lacks filled up with 00
+abbrev pub filledUp : Loader
+filledUp =
+    resalvaging
+    (λ kind s out w.
+    pick (eqb (w .salvaged .number) done)
+    (ours .salvage kind (s ++ replicate (nextAt s (offsetOf (sizeOf kind) s) - length s) 0x00) out)
+    w)
+
+-- tells how many bytes the stream's run takes, and not where the last kept window ended
+abbrev pub takenOffset : Loader
+takenOffset = resalvaging (λ kind s out w. record { salvaged = with·offset (w .salvaged) (streamStop (sizeOf kind) first-mode s .taken); out = w .out })
+
+-- salvages accepted streams alone, and refuses others with their own number, as a tidier does
+abbrev pub acceptedAlone : Loader
+acceptedAlone =
+    resalvaging
+    (λ kind s out w.
+    let n = streamStop (sizeOf kind) first-mode s .number in
+    pick (eqb (w .salvaged .number) done) (record { salvaged = changesOf (sizeOf kind) s n; out = outputOf n (salvaged (sizeOf kind) s) out }) w)
+
+-- of a stream that broke off or was refused, writes the first two windows in the other order
+abbrev pub secondFirst : List Window → List Window
+secondFirst [] = []
+secondFirst (v ∷ []) = v ∷ []
+secondFirst (v ∷ w ∷ ws) = w ∷ v ∷ ws
+
+abbrev pub otherOrder : Loader
+otherOrder =
+    resalvaging
+    (λ kind s out w.
+    pick (eqb (w .salvaged .end) done) w
+    (record { salvaged = w .salvaged; out = over (streamWith s (secondFirst (givenOf (sizeOf kind) s))) out }))
 
 -- ---- other calls
 

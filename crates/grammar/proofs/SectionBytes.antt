@@ -31,7 +31,7 @@ sectionBytes s rest =
 abbrev pub leadBytes : Bool → List ℕ
 leadBytes k = pick k (preamble ∷ preamble ∷ []) (preamble ∷ [])
 
-windows-bytes : (base : ℕ) (ws : List Window) → bytesOf (windowsSent base ws) ≡ windowsBytes ws
+pub windows-bytes : (base : ℕ) (ws : List Window) → bytesOf (windowsSent base ws) ≡ windowsBytes ws
 windows-bytes base [] = refl
 windows-bytes base (w ∷ ws) =
     bytes-append (windowSent base w) (windowsSent base ws) ∙ rw (data-bytes (base + w .start) (w .bytes), windows-bytes base ws)

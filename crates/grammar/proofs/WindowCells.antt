@@ -55,7 +55,7 @@ data-no-register : (a : ℕ) (bs : List ℕ) (d old : ℕ) → lastTo registers 
 data-no-register a [] d old = refl
 data-no-register a (b ∷ bs) d old = data-no-register (suc a) bs d old
 
-windows-no-register : (base : ℕ) (ws : List Window) (d old : ℕ) → lastTo registers (windowsSent base ws) d old ≡ old
+pub windows-no-register : (base : ℕ) (ws : List Window) (d old : ℕ) → lastTo registers (windowsSent base ws) d old ≡ old
 windows-no-register base [] d old = refl
 windows-no-register base (w ∷ ws) d old =
     last-append registers (dataSent (base + w .start) (w .bytes)) (windowsSent base ws) d old
@@ -80,7 +80,7 @@ null-bytes base (w ∷ ws) i old =
     ∙ null-bytes base ws i (lastTo memory data-of i old)
     ∙ sym (last-append memory data-of (windowsSent base ws) i old)
 
-windows-append : (base : ℕ) (vs ws : List Window) → windowsSent base (vs ++ ws) ≡ windowsSent base vs ++ windowsSent base ws
+pub windows-append : (base : ℕ) (vs ws : List Window) → windowsSent base (vs ++ ws) ≡ windowsSent base vs ++ windowsSent base ws
 windows-append base [] ws = refl
 windows-append base (v ∷ vs) ws =
     ap (λ (l : List Sent). windowSent base v ++ l) (windows-append base vs ws)

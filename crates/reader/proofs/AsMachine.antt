@@ -23,7 +23,6 @@ use Rattle.machine.specs.Calls.{openedPlace}
 use Rattle.machine.proofs.Feed.{run-at, run-end}
 use Rattle.reader.specs.declared.stream.Stop.{Stop}
 use Rattle.reader.specs.Stops.{stop, _then_}
-use Rattle.reader.specs.declared.window.ReadWindow.{ReadWindow}
 use Rattle.reader.specs.Windows.{windowsStop, windowsOf}
 use Rattle.reader.specs.Stream.{preambleAt, controlAt, countAt, headStop, checkStop, streamStop}
 use Rattle.reader.proofs.Windows.{windows-inside}
@@ -35,7 +34,7 @@ abbrev pub startedOf : ℕ → List ℕ → ℕ → Chain
 startedOf kind ks mode = with·place (freshChain 1 (kind ∷ ks)) (openedPlace mode writing)
 
 -- the same, its control byte loaded
-abbrev loaded : ℕ → List ℕ → ℕ → ℕ → Chain
+abbrev pub loaded : ℕ → List ℕ → ℕ → ℕ → Chain
 loaded kind ks mode control =
     record {
       count = 1;
@@ -53,10 +52,15 @@ module _ (kind : ℕ) (ks : List ℕ) (mode : ℕ) (m s : List ℕ) (control at 
   check-by : (k : ℕ) → at < length s → checkStop control s at ≡ stop k (at + 1)
       → numberOf (waits (loaded kind ks mode control) 0 at) (getD s at 0) ≡ k → eqb k more ≡ false
       → (checked ≡ run (ended (waits (loaded kind ks mode control) 0 at)) m (checkStop control s at .number)) × (checkStop control s at .taken ≡ at + 1)
-  check-by k l e n z = rw e (run-ends (waits (loaded kind ks mode control) 0 at) m s at k l n z, refl)
+      × (checked .number ≡ more → ⊥)
+  check-by k l e n z =
+      let r = run-ends (waits (loaded kind ks mode control) 0 at) m s at k l n z in
+      rw e (r, refl, λ h. eqb-false k more z (ap (λ (x : Run). x .number) (sym r) ∙ h))
 
-  check-is : at < length s
+  -- it ends the run
+  pub check-is : at < length s
       → (checked ≡ run (ended (waits (loaded kind ks mode control) 0 at)) m (checkStop control s at .number)) × (checkStop control s at .taken ≡ at + 1)
+      × (checked .number ≡ more → ⊥)
   unfolding checkStop numberOf waits
   check-is l =
       let e : leb (length s) at ≡ false = lt-leb (length s) at l in
@@ -225,39 +229,52 @@ module _ (kind : ℕ) (ks : List ℕ) (mode : ℕ) (m s : List ℕ) where
 
   -- ---- the stream
 
-  -- the check byte is awaited at `at`, the windows' data stored
   abbrev p : ℕ
   p = preambleAt mode
 
-  abbrev read : List ReadWindow
-  read = windowsOf (sizeOf kind) s (countAt s p) (p + 6)
+  -- the byte after k windows, and memory with their data stored
+  abbrev after : ℕ → ℕ
+  after k = windowsStop (sizeOf kind) s k (p + 6) .taken
 
-  abbrev at : ℕ
-  at = windowsStop (sizeOf kind) s (countAt s p) (p + 6) .taken
+  abbrev stored : ℕ → List ℕ
+  stored k = storedAll s 0 m (windowsOf (sizeOf kind) s k (p + 6))
 
-  windows-taken : ((i : ℕ) → getD s i 0 < 256)
-      → Takes (runOf (run c₀ m more) (drop 0 s)) (headStop mode s then windowsStop (sizeOf kind) s (countAt s p))
-      (runOf (run (waits (c₁ kind ks mode m s p) 0 at) (storedAll s 0 m read) more) (drop at s))
+  -- n more are left after them
+  windows-taken : ((i : ℕ) → getD s i 0 < 256) → (k n : ℕ) → k + n ≡ countAt s p
+      → Takes (runOf (run c₀ m more) (drop 0 s)) (headStop mode s then windowsStop (sizeOf kind) s k)
+      (runOf (run (waits (c₁ kind ks mode m s p) n (after k)) (stored k) more) (drop (after k) s))
   unfolding c₁ baseOf
-  windows-taken bytes =
+  windows-taken bytes k n e =
       takes-then (runOf (run c₀ m more) (drop 0 s)) (runOf (run (waits (c₁ kind ks mode m s p) (countAt s p) (p + 6)) m more) (drop (p + 6) s)) _
-      (headStop mode s) (windowsStop (sizeOf kind) s (countAt s p)) (head-takes bytes)
+      (headStop mode s) (windowsStop (sizeOf kind) s k) (head-takes bytes)
       (λ z. let d = head-done mode s z in
-      rw (d .0) (windows-as-machine (c₁ kind ks mode m s p) (sizeOf kind) (c₁-size kind ks mode m s p) s (countAt s p) m (p + 6) (d .1)))
+      rw (d .0, ← e) (windows-as-machine (c₁ kind ks mode m s p) (sizeOf kind) (c₁-size kind ks mode m s p) s k n m (p + 6) (d .1)))
+
+  -- all of them: the check byte is awaited at `at`
+  abbrev at : ℕ
+  at = after (countAt s p)
+
+  abbrev all : List ℕ
+  all = stored (countAt s p)
+
+  all-taken : ((i : ℕ) → getD s i 0 < 256)
+      → Takes (runOf (run c₀ m more) (drop 0 s)) (headStop mode s then windowsStop (sizeOf kind) s (countAt s p))
+      (runOf (run (waits (c₁ kind ks mode m s p) 0 at) all more) (drop at s))
+  all-taken bytes = windows-taken bytes (countAt s p) 0 (omega arith)
 
   stream-ends : ((i : ℕ) → getD s i 0 < 256) → endOf (runOf (run c₀ m more) (drop 0 s)) ≡ ticked (streamStop (sizeOf kind) mode s)
   unfolding streamStop c₁
   stream-ends bytes =
       let e : Stop = headStop mode s then windowsStop (sizeOf kind) s (countAt s p) in
-      takes-ends (runOf (run c₀ m more) (drop 0 s)) (runOf (run (waits (c₁ kind ks mode m s p) 0 at) (storedAll s 0 m read) more) (drop at s)) e (checkStop (controlAt s p) s)
-      (windows-taken bytes)
+      takes-ends (runOf (run c₀ m more) (drop 0 s)) (runOf (run (waits (c₁ kind ks mode m s p) 0 at) all more) (drop at s)) e (checkStop (controlAt s p) s)
+      (all-taken bytes)
       (λ z. let a = then-done (headStop mode s) (windowsStop (sizeOf kind) s (countAt s p)) z in
       let d = head-done mode s (a .0) in
       let f : e ≡ windowsStop (sizeOf kind) s (countAt s p) (p + 6) = a .1 ∙ rw (d .0) in
-      rw f (check-ends kind ks mode (storedAll s 0 m read) s (controlAt s p) at (windows-inside (sizeOf kind) s (countAt s p) (p + 6) (d .1) (ap (λ (x : Stop). x .number) (sym f) ∙ z))))
+      rw f (check-ends kind ks mode all s (controlAt s p) at (windows-inside (sizeOf kind) s (countAt s p) (p + 6) (d .1) (ap (λ (x : Stop). x .number) (sym f) ∙ z))))
 
   stream-accepts : ((i : ℕ) → getD s i 0 < 256) → streamStop (sizeOf kind) mode s .number ≡ done
-      → runOf (run c₀ m more) (drop 0 s) ≡ run (ended (waits (c₁ kind ks mode m s p) 0 at)) (storedAll s 0 m read) done
+      → runOf (run c₀ m more) (drop 0 s) ≡ run (ended (waits (c₁ kind ks mode m s p) 0 at)) all done
   unfolding streamStop c₁
   stream-accepts bytes z =
       let e : Stop = headStop mode s then windowsStop (sizeOf kind) s (countAt s p) in
@@ -265,7 +282,7 @@ module _ (kind : ℕ) (ks : List ℕ) (mode : ℕ) (m s : List ℕ) where
       let a = then-done (headStop mode s) (windowsStop (sizeOf kind) s (countAt s p)) (b .0) in
       let d = head-done mode s (a .0) in
       let f : e .taken ≡ at = ap (λ (x : Stop). x .taken) (a .1) ∙ rw (d .0) in
-      windows-taken bytes .goes-on (b .0) ∙ check-accepts kind ks mode (storedAll s 0 m read) s (controlAt s p) at (rw f at (b .2))
+      all-taken bytes .goes-on (b .0) ∙ check-accepts kind ks mode all s (controlAt s p) at (rw f at (b .2))
 
 -- ---- all of it
 
@@ -294,3 +311,15 @@ module _ (kind : ℕ) (ks : List ℕ) (mode : ℕ) (m s : List ℕ) (bytes : (i 
   stream-stores z =
       let a = stream-accepts kind ks mode m s bytes z in
       (ap (λ (x : Run). x .memory) a, ap (λ (x : Run). x .chain .registers) a)
+
+  -- where the head and the first k windows are whole, n more are left at the byte after them
+  pub stream-stands : (k n at : ℕ) → k + n ≡ countAt s (preambleAt mode) → headStop mode s .number ≡ done
+      → windowsStop (sizeOf kind) s k (preambleAt mode + 6) ≡ stop done at
+      → machineOf kind ks mode m s
+      ≡ runOf
+      (run (waits (loaded kind ks mode (controlAt s (preambleAt mode))) n at) (storedAll s 0 m (windowsOf (sizeOf kind) s k (preambleAt mode + 6))) more)
+      (drop at s)
+  unfolding c₀ c₁
+  stream-stands k n at all z whole =
+      let d = head-done mode s z in
+      rw (ap (λ (e : Stop). e .taken) whole) at (windows-taken kind ks mode m s bytes k n all .goes-on (rw (d .0, whole)))

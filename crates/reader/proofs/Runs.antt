@@ -1,16 +1,17 @@
 -- Windows as the machine takes them, in a write of any chain: the run stops where the reading stops, or goes on after it. Assumes nothing.
 use Prim.Native.Nat.{ℕ, zero, suc, _+_, _-_, _*_, _/_, _%_, _^_, _≤_, _<_}
 use mathlib.Core.Bool.{false, and-false}
-use mathlib.Core.Path.{_≡_, refl, ap, _∙_}
+use mathlib.Core.Path.{_≡_, refl, sym, ap, _∙_}
 use mathlib.Core.List.{List, [], _∷_}
 use native.Mathlib.Omega.{arith}
 use native.Mathlib.Nat.{mod-add-mod, mul-div-left}
 use borrow.Author.Tests.{lt-ltb, le-ltb, le-leb, lt-leb, ltb-false, leb-true, leb-false, eqb-true, eqb-false}
-use lib.Dec.{eqb, ltb, leb, lit<}
+use lib.Dec.{eqb, ltb, leb, eqb·suc-zero, lit<}
 use lib.ListN.{length, getD, take, drop, length-drop}
 use lib.Seq.{sets, length-take-le}
 use Rattle.chain.proofs.ByCases.{by-test}
 use Rattle.chain.specs.declared.Chain.{Chain}
+use Rattle.chain.specs.declared.Place.{Place}
 use Rattle.chain.specs.Paper.{at·null, at·start, at·start-low, at·end, at·end-low, at·data, at·check, opened, writing, done, bad-start, bad-end, more}
 use Rattle.chain.specs.Rules.{pick}
 use Rattle.chain.specs.Set.{with·running, with·check, with·awaited, with·left, with·start, with·end, with·next, with·taken, with·mismatches, with·place}
@@ -106,6 +107,27 @@ unfoldable pub waits : Chain → ℕ → ℕ → Chain
 waits c zero at = inWrite c at·check 0 0 0 0 (tick at)
 waits c (suc n) at = inWrite c at·null (suc n) 0 0 0 (tick at)
 
+-- so many are left, and a null byte is awaited, or the check byte
+pub record Between (n : ℕ) (p : Place) : Type 0 where
+  pub awaits : p .awaited ≡ pick (eqb n 0) at·check at·null
+  pub left : p .left ≡ n
+
+pub waits-between : (c : Chain) (n at : ℕ) → Between n (waits c n at .place)
+unfolding waits
+waits-between c zero at = record { awaits = refl; left = refl }
+waits-between c (suc n) at = record { awaits = rw (eqb·suc-zero n); left = refl }
+
+-- so many are left, and of the first of them a byte is awaited that is not its null byte
+pub record Within (n : ℕ) (p : Place) : Type 0 where
+  pub past-null : at·start ≤ p .awaited
+  pub in-window : p .awaited ≤ at·data
+  pub left : p .left ≡ n
+
+-- the stream s was used up before the end of its window at `at`, which is one of n: the run r goes on there
+record UsedUp (s : List ℕ) (n at : ℕ) (r : Run) : Type 0 where
+  ends : endOf r ≡ stop more (tick (length s))
+  within : at < length s → Within n (r .chain .place)
+
 cut : (a : ℕ) → a * 256 / 256 ≡ a
 cut a = mul-div-left a (lit< {m = 0} {n = 256} tt)
 
@@ -123,14 +145,20 @@ module _ (c : Chain) (size : ℕ) (sz : sizeHere c ≡ size) (m s : List ℕ) (n
   unfolding shape
   w i = shape c s n at i (tick (at + i))
 
-  w-taken : (i : ℕ) → w i .place .taken ≡ tick (at + i)
+  -- where it stands after i bytes
+  record Reached (i : ℕ) : Type 0 where
+    taken : w i .place .taken ≡ tick (at + i)
+    awaited : i ≤ 5 → w i .place .awaited ≡ at·null + i
+    left : w i .place .left ≡ suc n
+
+  reached : (i : ℕ) → Reached i
   unfolding w shape
-  w-taken zero = refl
-  w-taken (suc zero) = refl
-  w-taken (suc (suc zero)) = refl
-  w-taken (suc (suc (suc zero))) = refl
-  w-taken (suc (suc (suc (suc zero)))) = refl
-  w-taken (suc (suc (suc (suc (suc i))))) = refl
+  reached zero = record { taken = refl; awaited = λ l. refl; left = refl }
+  reached (suc zero) = record { taken = refl; awaited = λ l. refl; left = refl }
+  reached (suc (suc zero)) = record { taken = refl; awaited = λ l. refl; left = refl }
+  reached (suc (suc (suc zero))) = record { taken = refl; awaited = λ l. refl; left = refl }
+  reached (suc (suc (suc (suc zero)))) = record { taken = refl; awaited = λ l. refl; left = refl }
+  reached (suc (suc (suc (suc (suc i))))) = record { taken = refl; awaited = λ l. omega arith; left = refl }
 
   w-step : (i : ℕ) → i < 5 → (2 ≤ i → startAt s at < size) → (4 ≤ i → (startAt s at ≤ endAt s at) × (endAt s at < size))
       → stepOf (w i) m (getD s (at + i) 0) ≡ run (w (i + 1)) m more
@@ -169,11 +197,11 @@ module _ (c : Chain) (size : ℕ) (sz : sizeHere c ≡ size) (m s : List ℕ) (n
       by-test (ltb (endAt s at) (startAt s at)) (λ y. simp (and-false, cut (getD s (at + 3) 0), sz, y))
       (λ y. simp (and-false, cut (getD s (at + 3) 0), sz, y, le-ltb (endAt s at) size (h (ltb-false (endAt s at) (startAt s at) y))))
 
-  -- the chain after k of its data bytes: on in the window, or after it
-  module _ (bs : List ℕ) where
-    block-within : startAt s at + length bs ≤ endAt s at → (i : ℕ) → blockOf (w 5) m i bs .place .taken ≡ tick (at + 5 + length bs)
-    unfolding w shape passedOf missesOf
-    block-within h i = rw (le-leb (startAt s at + length bs) (endAt s at) h, mod-add-mod (at + 5) (2 ^ 32) (length bs))
+  -- the chain after some of its data bytes: on in the window, or after it
+  block-within : (bs : List ℕ) → startAt s at + length bs ≤ endAt s at → (i : ℕ)
+      → blockOf (w 5) m i bs ≡ inWrite c at·data (suc n) (startAt s at) (endAt s at) (startAt s at + length bs) (tick (at + 5 + length bs))
+  unfolding w shape passedOf missesOf
+  block-within bs h i = rw (le-leb (startAt s at + length bs) (endAt s at) h, mod-add-mod (at + 5) (2 ^ 32) (length bs))
 
   block-after : (bs : List ℕ) → length bs ≡ widthOf (startAt s at) (endAt s at) → startAt s at ≤ endAt s at → (i : ℕ)
       → blockOf (w 5) m i bs ≡ waits c n (nextAt s at)
@@ -206,49 +234,65 @@ module _ (c : Chain) (size : ℕ) (sz : sizeHere c ≡ size) (m s : List ℕ) (n
       ∙ ap (λ (d : Chain). runOf (run d (sets m (baseOf (c .kinds) (c .place .device) + startAt s at) (take k (drop (at + 5) s))) more) (drop (nextAt s at) s))
       (block-after (take k (drop (at + 5) s)) e o (addressOf (w 5)))
 
-  data-dry : startAt s at ≤ endAt s at → at + 5 ≤ length s → length s < nextAt s at
-      → endOf (runOf (run (w 5) m more) (drop (at + 5) s)) ≡ stop more (tick (length s))
+  data-dry : startAt s at ≤ endAt s at → at + 5 ≤ length s → length s < nextAt s at → UsedUp s (suc n) at (runOf (run (w 5) m more) (drop (at + 5) s))
   unfolding w shape
   data-dry o g h =
       let e : length (drop (at + 5) s) ≡ length s - (at + 5) = length-drop (at + 5) s in
       by-test (leb (length s) (at + 5))
       (λ y. let q : at + 5 ≡ length s = omega (arith, leb-true (length s) (at + 5) y) in
-      rw (run-end (w 5) m s (at + 5) (leb-true (length s) (at + 5) y)) (ap (λ (t : ℕ). stop more (tick t)) q))
+      rw (run-end (w 5) m s (at + 5) (leb-true (length s) (at + 5) y))
+      (record { ends = ap (λ (t : ℕ). stop more (tick t)) q; within = λ l. record { past-null = omega arith; in-window = omega arith; left = refl } }))
       (λ y. let q = leb-false (length s) (at + 5) y in
       let x : at + 5 + length (drop (at + 5) s) ≡ length s = omega arith in
-      rw (block (drop (at + 5) s) (w 5) m refl (omega arith) (omega arith))
-      (ap (λ (t : ℕ). stop more t) (block-within (drop (at + 5) s) (omega arith) (addressOf (w 5)) ∙ ap tick x)))
+      rw (block (drop (at + 5) s) (w 5) m refl (omega arith) (omega arith), block-within (drop (at + 5) s) (omega arith) (addressOf (w 5)))
+      (record { ends = ap (λ (t : ℕ). stop more (tick t)) x; within = λ l. record { past-null = omega arith; in-window = omega arith; left = refl } }))
 
-  from-first : (x : Stop) → endOf (runOf (run (w 0) m more) (drop at s)) ≡ x → endOf (runOf (run (waits c (suc n) at) m more) (drop at s)) ≡ x
-  from-first x e = ap (λ (d : Chain). endOf (runOf (run d m more) (drop at s))) w-first ∙ e
+  -- the run from its null byte on
+  abbrev through : Run
+  through = runOf (run (waits c (suc n) at) m more) (drop at s)
 
-  -- one window: the run stops where its reading does, or goes on after it, its data stored
-  window-takes : at ≤ length s → Takes (runOf (run (waits c (suc n) at) m more) (drop at s)) (windowStop size s at) after
-  window-takes g =
-      ways size s at (λ e. Takes (runOf (run (waits c (suc n) at) m more) (drop at s)) e after)
-      (λ l b. let x : at + 2 + 1 ≡ at + 3 = omega arith in
-      takes-stop refl
-      (from-first (stop bad-start (tick (at + 3)))
-      (rw (run-on m s w at 2 (λ i j. w-step i (omega arith) (λ q. absurd (omega (arith, q, j))) (λ q. absurd (omega (arith, q, j)))) (omega arith))
-      (ap endOf (run-ends (w 2) m s (at + 2) bad-start (omega arith) (number-11 b) refl) ∙ rw (w-taken 2, inc (at + 2), x)))))
-      (λ l a b. let x : at + 4 + 1 ≡ at + 5 = omega arith in
-      takes-stop refl
-      (from-first (stop bad-end (tick (at + 5)))
-      (rw (run-on m s w at 4 (λ i j. w-step i (omega arith) (λ q. a) (λ q. absurd (omega (arith, q, j)))) (omega arith))
-      (ap endOf (run-ends (w 4) m s (at + 4) bad-end (omega arith) (number-12 b) refl) ∙ rw (w-taken 4, inc (at + 4), x)))))
-      (λ f o h. takes-stop refl
-      (from-first (stop more (tick (length s)))
+  from-first : through ≡ runOf (run (w 0) m more) (drop at s)
+  from-first = ap (λ (d : Chain). runOf (run d m more) (drop at s)) w-first
+
+  used-up : at ≤ length s → (at + 3 ≤ length s → startAt s at < size) → (at + 5 ≤ length s → (startAt s at ≤ endAt s at) × (endAt s at < size))
+      → length s < nextAt s at → UsedUp s (suc n) at through
+  used-up g f o h =
+      rw from-first
       (by-test (leb (at + 5) (length s))
       (λ y. let l : at + 5 ≤ length s = leb-true (at + 5) (length s) y in
       rw (run-on m s w at 5 (λ i j. w-step i j (λ q. f (omega arith)) (λ q. o l)) l) (data-dry (o l .0) l h))
       (λ y. let l : length s < at + 5 = leb-false (at + 5) (length s) y in
       let x : at + (length s - at) ≡ length s = omega arith in
+      let r = reached (length s - at) in
+      let a = r .awaited (omega arith) in
       rw (run-dry m s w at (λ i j. w-step i (omega arith) (λ q. f (omega arith)) (λ q. o (omega arith))) g)
-      (ap (λ (t : ℕ). stop more t) (w-taken (length s - at) ∙ ap tick x))))))
-      (λ a b d l. takes-whole
-      (ap (λ (d : Chain). runOf (run d m more) (drop at s)) w-first
-      ∙ run-on m s w at 5 (λ i j. w-step i j (λ q. a) (λ q. (b, d))) (omega arith)
-      ∙ data-on b l))
+      (record {
+        ends = ap (λ (t : ℕ). stop more t) (r .taken ∙ ap tick x);
+        within = λ k. record { past-null = omega arith; in-window = omega arith; left = r .left };
+      })))
+
+  -- one window: the run stops where its reading does, or goes on after it, its data stored
+  window-takes : at ≤ length s → Takes through (windowStop size s at) after
+  window-takes g =
+      ways size s at (λ e. Takes through e after)
+      (λ l b. let x : at + 2 + 1 ≡ at + 3 = omega arith in
+      takes-stop refl
+      (rw (from-first, run-on m s w at 2 (λ i j. w-step i (omega arith) (λ q. absurd (omega (arith, q, j))) (λ q. absurd (omega (arith, q, j)))) (omega arith))
+      (ap endOf (run-ends (w 2) m s (at + 2) bad-start (omega arith) (number-11 b) refl) ∙ rw (reached 2 .taken, inc (at + 2), x))))
+      (λ l a b. let x : at + 4 + 1 ≡ at + 5 = omega arith in
+      takes-stop refl
+      (rw (from-first, run-on m s w at 4 (λ i j. w-step i (omega arith) (λ q. a) (λ q. absurd (omega (arith, q, j)))) (omega arith))
+      (ap endOf (run-ends (w 4) m s (at + 4) bad-end (omega arith) (number-12 b) refl) ∙ rw (reached 4 .taken, inc (at + 4), x))))
+      (λ f o h. takes-stop refl (used-up g f o h .ends))
+      (λ a b d l. takes-whole (from-first ∙ run-on m s w at 5 (λ i j. w-step i j (λ q. a) (λ q. (b, d))) (omega arith) ∙ data-on b l))
+
+  -- a window that is not whole: if the run goes on, it stands within it
+  pub window-within : at < length s → (windowStop size s at .number ≡ done → ⊥) → through .number ≡ more → Within (suc n) (through .chain .place)
+  window-within l z h =
+      ways size s at (λ e. through .number ≡ e .number → (e .number ≡ done → ⊥) → Within (suc n) (through .chain .place))
+      (λ k b e y. absurd (omega (arith, sym h ∙ e))) (λ k a b e y. absurd (omega (arith, sym h ∙ e)))
+      (λ f o k e y. used-up (omega arith) f o k .within l) (λ a b d k e y. absurd (y refl))
+      (ap (λ (x : Stop). x .number) (window-takes (omega arith) .stops z)) z
 
 -- ---- the same, as it is read
 
@@ -264,19 +308,24 @@ module _ (c : Chain) (size : ℕ) (sz : sizeHere c ≡ size) (s : List ℕ) wher
   abbrev runFrom : List ℕ → ℕ → ℕ → Run
   runFrom m n at = runOf (run (waits c n at) m more) (drop at s)
 
-  pub windows-as-machine : (n : ℕ) (m : List ℕ) (at : ℕ) → at ≤ length s
-      → Takes (runFrom m n at) (windowsStop size s n at)
-      (runFrom (storedAll s (baseOf (c .kinds) (c .place .device)) m (windowsOf size s n at)) 0 (windowsStop size s n at .taken))
+  -- k windows, and n more that are left after them
+  pub windows-as-machine : (k n : ℕ) (m : List ℕ) (at : ℕ) → at ≤ length s
+      → Takes (runFrom m (k + n) at) (windowsStop size s k at)
+      (runFrom (storedAll s (baseOf (c .kinds) (c .place .device)) m (windowsOf size s k at)) n (windowsStop size s k at .taken))
   unfolding windowsStop windowsOf
-  windows-as-machine zero m at g = takes-whole refl
-  windows-as-machine (suc n) m at g =
-      let t = window-takes c size sz m s n at g in
-      by-test (eqb (windowStop size s at .number) done)
+  windows-as-machine zero n m at g =
+      let o : 0 + n ≡ n = omega arith in
+      rw o (takes-whole refl)
+  windows-as-machine (suc k) n m at g =
+      let o : suc k + n ≡ suc (k + n) = omega arith in
+      let t = window-takes c size sz m s (k + n) at g in
+      rw o
+      (by-test (eqb (windowStop size s at .number) done)
       (λ e. let z = eqb-true (windowStop size s at .number) done e in
       let q = is-whole size s at z in
       let x : windowStop size s at .taken ≡ nextAt s at = whole-next size s at q in
-      let u = windows-as-machine n (storedOf s (baseOf (c .kinds) (c .place .device)) m (readWindowOf size s at)) (nextAt s at) (q .all-there) in
+      let u = windows-as-machine k n (storedOf s (baseOf (c .kinds) (c .place .device)) m (readWindowOf size s at)) (nextAt s at) (q .all-there) in
       let v = t .goes-on z ∙ rw (q .reads) in
       record { goes-on = λ y. v ∙ u .goes-on (rw (e, x) at y) ∙ rw (e, x); stops = λ y. ap endOf v ∙ u .stops (λ a. y (rw (e, x) a)) ∙ rw (e, x) })
       (λ e. let f = eqb-false (windowStop size s at .number) done e in
-      record { goes-on = λ y. absurd (f (rw e at y)); stops = λ y. t .stops f ∙ rw e })
+      record { goes-on = λ y. absurd (f (rw e at y)); stops = λ y. t .stops f ∙ rw e }))

@@ -161,7 +161,7 @@ module _ (size : ℕ) (s : List ℕ) where
       (λ e. rw e (omega arith))
 
   -- where all of them are whole, so are the first and the others
-  windows-next : (n at : ℕ) → windowsStop size s (suc n) at .number ≡ done
+  pub windows-next : (n at : ℕ) → windowsStop size s (suc n) at .number ≡ done
       → Whole size s at × (windowsStop size s (suc n) at ≡ windowsStop size s n (nextAt s at))
       × (windowsOf size s (suc n) at ≡ readWindowOf size s at ∷ windowsOf size s n (nextAt s at))
   unfolding windowsStop windowsOf
@@ -192,6 +192,13 @@ module _ (size : ℕ) (s : List ℕ) where
   windows-inside (suc n) at g h =
       let w = windows-next n at h in
       rw (w .1) (windows-inside n (nextAt s at) (w .0 .all-there) (rw (w .1) at h))
+
+  -- and one after another
+  pub windows-forward : (n at : ℕ) → windowsStop size s n at .number ≡ done → at ≤ windowsStop size s n at .taken
+  windows-forward zero at h = unfold windowsStop in omega arith
+  windows-forward (suc n) at h =
+      let w = windows-next n at h in
+      rw (w .1) (omega (arith, windows-forward n (nextAt s at) (rw (w .1) at h)))
 
   -- as many as were announced
   pub windows-length : (n at : ℕ) → windowsStop size s n at .number ≡ done → length (windowsOf size s n at) ≡ n

@@ -12,7 +12,7 @@ use Rattle.reader.specs.declared.window.ReadWindow.{ReadWindow}
 use Rattle.reader.specs.Windows.{windowsOf}
 use Rattle.reader.specs.Stream.{head-length, controlAt, countAt}
 
--- a window that was read in the stream s, with its data; its null byte has no meaning
+-- a window that was read in the stream s, with its data, and the null byte 00
 abbrev pub windowIn : List ℕ → ReadWindow → Window
 windowIn s w = windowOf (w .start) (w .end) (take (widthOf (w .start) (w .end)) (drop (w .first) s))
 

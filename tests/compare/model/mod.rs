@@ -9,6 +9,7 @@ pub mod lister;
 pub mod machine;
 pub mod numbers;
 pub mod output;
+pub mod salvage;
 pub mod saved;
 pub mod tidy;
 pub mod well_formed;

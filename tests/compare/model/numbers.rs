@@ -18,6 +18,7 @@ pub const BAD_DATA: u8 = 14;
 pub const TOO_SHORT: u8 = 15;
 pub const MORE: u8 = 16;
 pub const ILL_FORMED: u8 = 17;
+pub const NO_HEAD: u8 = 27;
 
 /// "Preamble B2 hex, postamble 4D hex."
 pub const PREAMBLE: u8 = 0xB2;

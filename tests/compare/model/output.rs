@@ -3,7 +3,7 @@
 
 use super::numbers::*;
 
-/// The answer of closing, save, write and tidy; the hunt has two figures more.
+/// The answer of closing, save, write and tidy; the hunt and salvage have figures more.
 #[derive(Clone, Copy, PartialEq, Eq, Debug)]
 pub struct Written {
     pub number: u8,

@@ -22,7 +22,7 @@ use Rattle.demands.proofs.files.WrittenLoads.{any-chain}
 
 -- the lead-in of the mode, as against the preambles that the machine is given
 module _ (mode : ℕ) (x : Section) where
-  wanted-same : eqb mode serial-external || eqb mode serial-internal ≡ false → wanted mode x ≡ bytesOf (streamSent noChain mode x [])
+  pub wanted-same : eqb mode serial-external || eqb mode serial-internal ≡ false → wanted mode x ≡ bytesOf (streamSent noChain mode x [])
   unfolding leadIn
   wanted-same e = rw e (by-test (eqb mode two-preambles) (λ q. rw q) (λ q. rw q))
 

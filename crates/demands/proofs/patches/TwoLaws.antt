@@ -27,7 +27,7 @@ use Rattle.demands.proofs.patches.PatchLoads.{sent-whole, read-fits, re
 
 -- ---- the windows of both fit
 
-fit-append : (size : ℕ) (vs ws : List Window) → AllFit size vs → AllFit size ws → AllFit size (vs ++ ws)
+pub fit-append : (size : ℕ) (vs ws : List Window) → AllFit size vs → AllFit size ws → AllFit size (vs ++ ws)
 fit-append size [] ws f g = g
 fit-append size (v ∷ vs) ws f g = (f .0, fit-append size vs ws (f .1) g)
 
@@ -35,11 +35,11 @@ fit-nulled : (size : ℕ) (ws : List Window) → AllFit size ws → AllFit size 
 fit-nulled size [] f = tt
 fit-nulled size (w ∷ ws) f = (record { order = f .0 .order; inside = f .0 .inside; full = f .0 .full }, fit-nulled size ws (f .1))
 
-fit-unnulled : (size : ℕ) (ws : List Window) → AllFit size (nulled ws) → AllFit size ws
+pub fit-unnulled : (size : ℕ) (ws : List Window) → AllFit size (nulled ws) → AllFit size ws
 fit-unnulled size [] f = tt
 fit-unnulled size (w ∷ ws) f = (record { order = f .0 .order; inside = f .0 .inside; full = f .0 .full }, fit-unnulled size ws (f .1))
 
-nulled-many : (ws : List Window) → length (nulled ws) ≡ length ws
+pub nulled-many : (ws : List Window) → length (nulled ws) ≡ length ws
 nulled-many [] = refl
 nulled-many (w ∷ ws) = ap suc (nulled-many ws)
 

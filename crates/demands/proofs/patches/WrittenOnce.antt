@@ -85,7 +85,7 @@ stream-parts c mode s u =
 
 -- ---- how long the stream of both is
 
-windows-long : (vs ws : List Window) → length (windowsBytes (nulled (vs ++ ws))) ≡ length (windowsBytes vs) + length (windowsBytes ws)
+pub windows-long : (vs ws : List Window) → length (windowsBytes (nulled (vs ++ ws))) ≡ length (windowsBytes vs) + length (windowsBytes ws)
 windows-long [] [] = refl
 windows-long [] (w ∷ ws) =
     omega (arith, length-append (windowBytes (windowOf (w .start) (w .end) (w .bytes))) (windowsBytes (nulled ws)), length-append (windowBytes w) (windowsBytes ws), windows-long [] ws)
@@ -127,7 +127,7 @@ module _ (l : Loader) (a : Demand2a l) (r : Demand2c l) (c : Chain) (m : List �
   kind = getD (c .kinds) 0 0
 
   -- a stream with a reading, whatever follows it, lists as that and is written again
-  again : (mode : ℕ) (s rest ts te to : List ℕ) (x : Reading c mode s) → Mode mode → Bytes s → Bytes rest → Room (length (x .first .windows)) ts te to
+  pub again : (mode : ℕ) (s rest ts te to : List ℕ) (x : Reading c mode s) → Mode mode → Bytes s → Bytes rest → Room (length (x .first .windows)) ts te to
       → Again l kind mode (s ++ rest) (ran l writing mode c m [] (s ++ rest) .fed .answer .taken) (x .first) (l .list kind mode (s ++ rest) ts te to)
   again mode s rest ts te to x o u v room =
       let g = file-taken l a c m mode s rest d o u x in

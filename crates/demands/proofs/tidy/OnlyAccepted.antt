@@ -24,7 +24,8 @@ use Rattle.demands.specs.Loader.{Loader, Idle}
 use Rattle.demands.specs.Demand2.{ran}
 use Rattle.demands.specs.ListTable.{ownNumber}
 use Rattle.demands.specs.Ours.{ours}
-use Rattle.demands.specs.OneFile.{KeepsTidy, TidiesOnly}
+use Rattle.demands.specs.Patches.{Device}
+use Rattle.demands.specs.OneFile.{KeepsTidy, Accepted, TidiesOnly}
 use Rattle.demands.proofs.loads.StreamA.{zeros-bytes, mode-one}
 use Rattle.demands.proofs.loads.AcceptedFits.{second-e}
 use Rattle.demands.proofs.numbers.ListTables.{good-chain, new-is, kinds-kept, fresh-formed, own-stream}
@@ -49,7 +50,7 @@ module _ (kind : ℕ) (known : sizeOf kind ≡ 0 → ⊥) where
   abbrev zeros : List ℕ
   zeros = replicate (sizeOf kind) 0
 
-  idle-fresh : Idle fresh zeros
+  pub idle-fresh : Idle fresh zeros
   unfolding stateNumber
   idle-fresh =
       record {
@@ -85,13 +86,20 @@ moved kind c s some e r =
       bytes = read-stream f refl first-mode s r c;
     }
 
+-- a stream whose number is 0 begins with an accepted one
+pub begins-accepted : (c : Chain) (m s : List ℕ) → Device c m → Bytes s → streamStop (sizeOf (getD (c .kinds) 0 0)) first-mode s .number ≡ done
+    → (n : ℕ) × Accepted c (take n s)
+begins-accepted c m s d u z =
+    let kind : ℕ = getD (c .kinds) 0 0 in
+    let r = front kind (first-known c m (d .idle)) s u z in
+    (r .0, record { bytes = bytes-take (r .0) s u; reading = moved kind c (take (r .0) s) (omega (arith, d .one)) refl (r .1) })
+
 pub tidies-only : (l : Loader) → KeepsTidy l → TidiesOnly l
 tidies-only l keeps c m bs out d u z =
     let kind : ℕ = getD (c .kinds) 0 0 in
     let known = first-known c m (d .idle) in
     let n : tidyNumber kind bs (length out) ≡ done = sym (ap (λ (r : Written). r .number) (keeps kind bs out .answer)) ∙ z in
-    let r = front kind known bs u (tidied-stop kind bs (length out) known n) in
-    (r .0, record { bytes = bytes-take (r .0) bs u; reading = moved kind c (take (r .0) bs) (omega (arith, d .one)) refl (r .1) })
+    begins-accepted c m bs d u (tidied-stop kind bs (length out) known n)
 
 -- ---- ours keeps its promise
 

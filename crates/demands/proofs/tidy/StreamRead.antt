@@ -56,7 +56,7 @@ module _ (kind : ℕ) (c : Chain) (x : Section) (rest : List ℕ) (f : SectionFi
   file-is : file ≡ preamble ∷ sectionBytes x rest
   file-is = stream-bytes c first-mode x rest
 
-  stood : Stood (sizeOf kind) first-mode 0 file x
+  pub stood : Stood (sizeOf kind) first-mode 0 file x
   stood = subst (λ (l : List ℕ). Stood (sizeOf kind) first-mode 0 l x) (sym file-is) (stood-one (sizeOf kind) first-mode x rest f refl)
 
   -- accepted at its postamble
@@ -66,7 +66,7 @@ module _ (kind : ℕ) (c : Chain) (x : Section) (rest : List ℕ) (f : SectionFi
       ap (λ (e : Stop). e .number)
       (stream-stop kind first-mode 0 file x (0 + 6 + length (windowsBytes (x .windows)) + 1) refl stood refl)
 
-  given-is : givenOf (sizeOf kind) file ≡ nulled (x .windows)
+  pub given-is : givenOf (sizeOf kind) file ≡ nulled (x .windows)
   unfolding givenOf
   given-is =
       let head : List ℕ = preamble ∷ x .control ∷ x .address0 ∷ x .address1 ∷ x .address2 ∷ (no-windows - length (x .windows)) ∷ [] in

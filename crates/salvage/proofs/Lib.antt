@@ -1,0 +1,6 @@
+pub mod WholeWindows
+pub mod RawBytes
+pub mod Keeping
+pub mod Laying
+pub mod Answers
+pub mod Only
