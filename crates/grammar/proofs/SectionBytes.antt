@@ -4,7 +4,8 @@ use mathlib.Core.Bool.{Bool, true, false, _||_}
 use mathlib.Core.Path.{_≡_, refl, ap, _∙_}
 use mathlib.Core.List.{List, [], _∷_, _++_, append-assoc}
 use lib.Dec.{eqb}
-use lib.ListN.{length}
+use native.Mathlib.Omega.{arith}
+use lib.ListN.{length, length-append}
 use borrow.Author.Tests.{eqb-true}
 use Rattle.chain.specs.declared.Chain.{Chain}
 use Rattle.chain.specs.Paper.{preamble, postamble, no-windows, serial-external, serial-internal, two-preambles}
@@ -12,7 +13,7 @@ use Rattle.chain.specs.Rules.{pick}
 use Rattle.chain.proofs.ByCases.{by-test}
 use Rattle.grammar.specs.Stream.{baseAt, Window, Section, windowSent, windowsSent, sectionsSent, streamSent}
 use Rattle.grammar.specs.Sent.{frame, bytesOf}
-use Rattle.grammar.specs.Tables.{starts, ends, offsets}
+use Rattle.grammar.specs.Tables.{starts, ends, offsets, nulled}
 use Rattle.grammar.proofs.OneReading.{bytes-append, data-bytes}
 
 abbrev pub windowBytes : Window → List ℕ
@@ -57,6 +58,13 @@ pub serial-one : (mode : ℕ) → eqb mode serial-external || eqb mode serial-in
 serial-one mode e =
     by-test (eqb mode serial-external) (λ q. rw (eqb-true mode serial-external q))
     (λ q. rw (eqb-true mode serial-internal (rw q at e)))
+
+-- a null byte put out is a byte still
+pub nulled-long : (ws : List Window) → length (windowsBytes (nulled ws)) ≡ length (windowsBytes ws)
+nulled-long [] = refl
+nulled-long (w ∷ ws) =
+    let e = nulled-long ws in
+    omega (arith, length-append (w .bytes) (windowsBytes ws), length-append (w .bytes) (windowsBytes (nulled ws)))
 
 -- ---- as many entries as windows
 

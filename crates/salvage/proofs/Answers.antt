@@ -26,7 +26,7 @@ use Rattle.salvage.specs.declared.Kept.{Kept}
 use Rattle.salvage.specs.Salvage.{afterAll, offsetOf, salvaged, salvageNumber, Salvages}
 use Rattle.salvage.specs.Steps.{keptOf, reachesOf, endOf, laidOver}
 use Rattle.salvage.proofs.WholeWindows.{alone, few}
-use Rattle.salvage.proofs.Laying.{after-taken, Ready, there as within, long, reach-ends, count, sound-long, stored}
+use Rattle.salvage.proofs.Laying.{after-taken, Ready, there as within, long, reach-ends, count, ends-with-postamble, stored}
 
 -- ---- how the stream ended
 
@@ -97,7 +97,7 @@ module _ (kind : ℕ) (s out : List ℕ) (size : ℕ) (z : size ≡ sizeOf kind)
         salvaged-is = ap (streamWith s) given-is
 
         long-is : length (salvaged (sizeOf kind) s) ≡ k .offset + 1
-        long-is = sym (ap length salvaged-is) ∙ sound-long size s (k .windows) (k .offset) ready small
+        long-is = sym (ap length salvaged-is) ∙ ends-with-postamble size s (k .windows) (k .offset) ready small
 
         pub no-room : (r : Salvaged) → r ≡ refusedWith too-short → length out ≤ k .offset → Salvages kind s out r out
         no-room r f l =

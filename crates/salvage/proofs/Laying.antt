@@ -3,13 +3,13 @@ use Prim.Native.Nat.{ℕ, suc, _+_, _-_, _≤_, _<_}
 use mathlib.Core.Path.{_≡_, refl, sym, ap, _∙_}
 use mathlib.Core.List.{List, [], _∷_, _++_, append-assoc}
 use native.Mathlib.Omega.{arith}
-use lib.ListN.{length, getD, set, take, drop, length-append, length-drop, length-map, length-set}
-use lib.Seq.{sets, length-sets, take-at, drop-cons, set-at, length-take-le}
+use lib.ListN.{length, getD, set, take, drop, length-map, length-set}
+use lib.Seq.{sets, length-sets, drop-cons, set-at, length-take-le}
 use Rattle.chain.specs.Paper.{preamble, postamble, no-windows, done}
 use Rattle.chain.specs.Output.{over}
 use Rattle.grammar.specs.Stream.{Window}
 use Rattle.grammar.specs.Tables.{nullByte, nulled}
-use Rattle.grammar.proofs.SectionBytes.{windowsBytes}
+use Rattle.grammar.proofs.SectionBytes.{windowsBytes, nulled-long}
 use Rattle.chain.proofs.Over.{copied}
 use Rattle.reader.specs.declared.stream.Stop.{Stop}
 use Rattle.reader.specs.declared.window.ReadWindow.{ReadWindow}
@@ -22,27 +22,8 @@ use Rattle.reader.proofs.Given.{with-bytes}
 use Rattle.salvage.specs.Salvage.{afterAll}
 use Rattle.salvage.specs.Steps.{reachesOf, endOf, nullsOut, laidOver}
 use Rattle.salvage.proofs.WholeWindows.{rawsIn, raws-nulled, alone, inside}
-use Rattle.salvage.proofs.RawBytes.{raw-windows, ends-are, nulls-are}
-
--- the head, with this count byte
-abbrev six : List ℕ → ℕ → List ℕ
-six s n = getD s 0 0 ∷ getD s 1 0 ∷ getD s 2 0 ∷ getD s 3 0 ∷ getD s 4 0 ∷ n ∷ []
-
-head-first : (s : List ℕ) → 6 ≤ length s → s ≡ six s (getD s 5 0) ++ drop 6 s
-head-first [] h = absurd (omega arith)
-head-first (_ ∷ []) h = absurd (omega arith)
-head-first (_ ∷ _ ∷ []) h = absurd (omega arith)
-head-first (_ ∷ _ ∷ _ ∷ []) h = absurd (omega arith)
-head-first (_ ∷ _ ∷ _ ∷ _ ∷ []) h = absurd (omega arith)
-head-first (_ ∷ _ ∷ _ ∷ _ ∷ _ ∷ []) h = absurd (omega arith)
-head-first (_ ∷ _ ∷ _ ∷ _ ∷ _ ∷ _ ∷ s) h = refl
-
--- a null byte put out is a byte still
-nulled-long : (vs : List Window) → length (windowsBytes (nulled vs)) ≡ length (windowsBytes vs)
-nulled-long [] = refl
-nulled-long (v ∷ vs) =
-    let e = nulled-long vs in
-    omega (arith, length-append (v .bytes) (windowsBytes vs), length-append (v .bytes) (windowsBytes (nulled vs)))
+use Rattle.salvage.proofs.RawBytes.{ends-are, nulls-are}
+use Rattle.salvage.proofs.FrontBytes.{six, front-long, front-is, sound-long}
 
 -- whole windows end where their reading does
 pub after-taken : (size : ℕ) (s : List ℕ) (n at offset : ℕ) → windowsStop size s n at ≡ stop done offset → afterAll at (windowsOf size s n at) ≡ offset
@@ -102,18 +83,11 @@ module _ (size : ℕ) (s : List ℕ) (n offset : ℕ) (q : Ready size s n offset
   pub there : offset ≤ length s
   there = omega (arith, inside size s n head-length (q .head), ends)
 
-  is : s ≡ six s (getD s 5 0) ++ (windowsBytes raws ++ drop offset s)
-  is = head-first s (q .head) ∙ ap (λ (l : List ℕ). six s (getD s 5 0) ++ l) (raw-windows size s small n head-length ∙ ap (λ (i : ℕ). windowsBytes raws ++ drop i s) ends)
-
   pub long : offset ≡ 6 + length (windowsBytes raws)
-  long =
-      let l : length s ≡ 6 + (length (windowsBytes raws) + length (drop offset s)) = ap length is ∙ omega (arith, length-append (windowsBytes raws) (drop offset s)) in
-      omega (arith, there, length-drop offset s)
+  long = sym ends ∙ front-long size s small n (q .head)
 
   front : take offset s ≡ six s (getD s 5 0) ++ windowsBytes raws
-  front =
-      ap (take offset) (is ∙ sym (append-assoc (six s (getD s 5 0)) (windowsBytes raws) (drop offset s)))
-      ∙ take-at (six s (getD s 5 0) ++ windowsBytes raws) (drop offset s) offset (omega (arith, long))
+  front = ap (λ (i : ℕ). take i s) (sym ends) ∙ front-is size s small n (q .head)
 
   -- the sound stream, byte by byte
   pub count : length (windowsAt size s n head-length) ≡ n
@@ -123,16 +97,8 @@ module _ (size : ℕ) (s : List ℕ) (n offset : ℕ) (q : Ready size s n offset
       → streamWith s (windowsAt size s n head-length) ++ rest ≡ six s (no-windows - n) ++ (windowsBytes (nulled raws) ++ (postamble ∷ rest))
   sound rest = with-bytes s (windowsAt size s n head-length) rest ∙ rw (count, ← q .first, raws-nulled s head-length ws)
 
-  pub sound-long : length (streamWith s (windowsAt size s n head-length)) ≡ offset + 1
-  sound-long =
-      omega (
-        arith,
-        ap length (sound []),
-        length-append (streamWith s (windowsAt size s n head-length)) [],
-        length-append (windowsBytes (nulled raws)) (postamble ∷ []),
-        nulled-long raws,
-        long,
-      )
+  pub ends-with-postamble : length (streamWith s (windowsAt size s n head-length)) ≡ offset + 1
+  ends-with-postamble = sound-long size s small n (q .head) ∙ ap (λ (i : ℕ). i + 1) ends
 
   -- what was stored is it
   module _ (out : List ℕ) (fits : offset < length out) where
@@ -152,7 +118,7 @@ module _ (size : ℕ) (s : List ℕ) (n offset : ℕ) (q : Ready size s n offset
     stored =
         let head : List ℕ = six s (no-windows - n) in
         let rest : List ℕ = drop (suc offset) out in
-        let e : length (streamWith s (windowsAt size s n head-length)) ≡ suc offset = sound-long ∙ omega arith in
+        let e : length (streamWith s (windowsAt size s n head-length)) ≡ suc offset = ends-with-postamble ∙ omega arith in
         ap (λ (o : List ℕ). set o offset postamble)
         (third-is ∙ sym (append-assoc head (windowsBytes (nulled raws)) (drop offset out))
         ∙ ap (λ (o : List ℕ). (head ++ windowsBytes (nulled raws)) ++ o) (drop-cons out offset 0 fits))

@@ -22,7 +22,7 @@ use Rattle.grammar.specs.Stream.{Window, Section, sectionsSent, streamSent}
 use Rattle.grammar.specs.Fits.{AllFit, SectionFits, Reading}
 use Rattle.grammar.specs.Tables.{starts, ends, cells, nullByte, windowOf, windowsFrom, nulled, nullsOff}
 use Rattle.grammar.proofs.FromTables.{from-tables}
-use Rattle.grammar.proofs.SectionBytes.{windowBytes, windowsBytes, sectionBytes, section-bytes, leadBytes, stream-bytes}
+use Rattle.grammar.proofs.SectionBytes.{windowBytes, windowsBytes, sectionBytes, section-bytes, leadBytes, stream-bytes, nulled-long}
 use Rattle.demands.specs.Loader.{Loader, AfterWrite, offered, Mode}
 use Rattle.demands.specs.Demand2.{ran, Demand2a}
 use Rattle.demands.specs.Files.{wanted, given, Room, front, rewritten, Again, Wrote, Demand2b, Demand2c}
@@ -85,10 +85,8 @@ stream-parts c mode s u =
 
 -- ---- how long the stream of both is
 
-pub windows-long : (vs ws : List Window) → length (windowsBytes (nulled (vs ++ ws))) ≡ length (windowsBytes vs) + length (windowsBytes ws)
-windows-long [] [] = refl
-windows-long [] (w ∷ ws) =
-    omega (arith, length-append (windowBytes (windowOf (w .start) (w .end) (w .bytes))) (windowsBytes (nulled ws)), length-append (windowBytes w) (windowsBytes ws), windows-long [] ws)
+windows-long : (vs ws : List Window) → length (windowsBytes (nulled (vs ++ ws))) ≡ length (windowsBytes vs) + length (windowsBytes ws)
+windows-long [] ws = omega (arith, nulled-long ws)
 windows-long (v ∷ vs) ws =
     omega (arith, length-append (windowBytes (windowOf (v .start) (v .end) (v .bytes))) (windowsBytes (nulled (vs ++ ws))), length-append (windowBytes v) (windowsBytes vs), windows-long vs ws)
 

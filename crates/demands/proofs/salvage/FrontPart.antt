@@ -5,7 +5,7 @@ use mathlib.Core.Path.{_≡_, refl, ap, sym, subst, _∙_}
 use mathlib.Core.List.{List, [], _∷_, _++_, append-assoc}
 use native.Mathlib.Omega.{arith}
 use lib.Dec.{lit<}
-use lib.ListN.{length, getD, take, drop, replicate, length-append, length-replicate}
+use lib.ListN.{length, getD, take, replicate, length-append, length-replicate}
 use lib.Seq.{length-take-le, take-at}
 use Rattle.chain.specs.declared.Chain.{Chain}
 use Rattle.chain.specs.Paper.{preamble, postamble, no-windows, writing, first-mode}
@@ -23,9 +23,9 @@ use Rattle.grammar.proofs.WindowCells.{windows-append}
 use Rattle.reader.specs.Stream.{head-length, controlAt, countAt}
 use Rattle.reader.specs.Given.{givenOf, withHead}
 use Rattle.salvage.specs.Salvage.{offsetOf}
-use Rattle.salvage.proofs.RawBytes.{raw-windows}
+use Rattle.salvage.proofs.FrontBytes.{front-is as front-bytes-are}
 use Rattle.demands.proofs.patches.TwoLaws.{fit-append}
-use Rattle.demands.proofs.salvage.KeptWindows.{raws, raws-many, kept-few, raws-fit, offset-inside, offset-is}
+use Rattle.demands.proofs.salvage.KeptWindows.{raws, raws-many, kept-few, raws-fit, offset-inside}
 
 -- ---- windows of cell 0
 
@@ -39,18 +39,6 @@ fillers-fit size h (suc n) = (record { order = omega arith; inside = h; full = r
 fillers-small : (n : ℕ) → Bytes (bytesOf (windowsSent 0 (replicate n filler) ++ (frame postamble ∷ [])))
 fillers-small zero = (lit< tt, tt)
 fillers-small (suc n) = (lit< tt, (lit< tt, (lit< tt, (lit< tt, (lit< tt, (lit< tt, fillers-small n))))))
-
--- ---- the head
-
-six-bytes : (s : List ℕ) → head-length ≤ length s
-    → s ≡ getD s 0 0 ∷ getD s 1 0 ∷ getD s 2 0 ∷ getD s 3 0 ∷ getD s 4 0 ∷ getD s 5 0 ∷ drop head-length s
-six-bytes [] h = absurd (omega arith)
-six-bytes (a ∷ []) h = absurd (omega arith)
-six-bytes (a ∷ b ∷ []) h = absurd (omega arith)
-six-bytes (a ∷ b ∷ c ∷ []) h = absurd (omega arith)
-six-bytes (a ∷ b ∷ c ∷ d ∷ []) h = absurd (omega arith)
-six-bytes (a ∷ b ∷ c ∷ d ∷ e ∷ []) h = absurd (omega arith)
-six-bytes (a ∷ b ∷ c ∷ d ∷ e ∷ f ∷ s) h = refl
 
 -- ---- the front part
 
@@ -99,13 +87,10 @@ module _ (kind : ℕ) (s : List ℕ) where
     -- the bytes of s up to offset: the head, and the whole windows
     pub front-is : take (offsetOf size s) s
         ≡ preamble ∷ getD s 1 0 ∷ getD s 2 0 ∷ getD s 3 0 ∷ getD s 4 0 ∷ getD s 5 0 ∷ windowsBytes (raws size s)
+    unfolding offsetOf
     front-is =
-        let wb : List ℕ = windowsBytes (raws size s) in
-        let head : List ℕ = preamble ∷ getD s 1 0 ∷ getD s 2 0 ∷ getD s 3 0 ∷ getD s 4 0 ∷ getD s 5 0 ∷ [] in
-        let body : drop head-length s ≡ wb ++ drop (offsetOf size s) s = unfold offsetOf in raw-windows size s (bytes-at s u) (countAt s 0) head-length in
-        let all : s ≡ (head ++ wb) ++ drop (offsetOf size s) s = six-bytes s six ∙ rw (first, body) in
-        let long : length (head ++ wb) ≡ offsetOf size s = omega (arith, offset-is size s u six) in
-        ap (take (offsetOf size s)) all ∙ take-at (head ++ wb) (drop (offsetOf size s) s) (offsetOf size s) long
+        front-bytes-are size s (bytes-at s u) (countAt s 0) six
+        ∙ ap (λ (b : ℕ). b ∷ getD s 1 0 ∷ getD s 2 0 ∷ getD s 3 0 ∷ getD s 4 0 ∷ getD s 5 0 ∷ windowsBytes (raws size s)) first
 
     front-bytes : bytesOf frontSent ≡ take (offsetOf size s) s
     front-bytes =

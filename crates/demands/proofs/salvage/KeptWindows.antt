@@ -1,35 +1,30 @@
 -- What is kept of a stream of bytes, under its own head: windows that fit, null bytes 00, and all their parts are bytes; written, their 4D comes where the
 -- last one had ended. The machine is not mentioned. Assumes nothing.
 use Prim.Native.Nat.{ℕ, _+_, _≤_}
-use mathlib.Core.Bool.{false}
 use mathlib.Core.Path.{_≡_, refl, sym, ap, subst, _∙_}
 use mathlib.Core.List.{List, [], _∷_, map}
 use native.Mathlib.Omega.{arith}
-use lib.ListN.{length, take, drop, length-map, length-append, length-drop}
+use lib.ListN.{length, take, drop, length-map}
 use Rattle.chain.specs.declared.Chain.{Chain}
 use Rattle.chain.specs.Paper.{first-mode}
 use Rattle.chain.specs.Kinds.{baseOf}
 use Rattle.chain.specs.Window.{widthOf}
 use Rattle.chain.specs.Bytes.{Bytes}
-use Rattle.chain.specs.Calls.{noChain}
 use Rattle.chain.proofs.Bytes.{bytes-append, bytes-take, bytes-at, bytes-drop}
 use Rattle.grammar.specs.Sent.{bytesOf}
 use Rattle.grammar.specs.Stream.{Window, streamSent}
 use Rattle.grammar.specs.Fits.{AllFit, SectionFits}
 use Rattle.grammar.specs.Tables.{cells, nulled}
-use Rattle.grammar.proofs.SectionBytes.{windowsBytes}
 use Rattle.reader.specs.declared.window.ReadWindow.{ReadWindow}
 use Rattle.reader.specs.Windows.{windowsOf}
 use Rattle.reader.specs.Stream.{head-length, countAt}
 use Rattle.reader.specs.Given.{windowIn, givenOf}
-use Rattle.salvage.specs.Salvage.{afterAll, offsetOf, salvaged}
+use Rattle.salvage.specs.Salvage.{offsetOf, salvaged}
 use Rattle.salvage.proofs.WholeWindows.{rawsIn, raws-nulled, few, inside, fit}
-use Rattle.salvage.proofs.RawBytes.{raw-windows}
+use Rattle.salvage.proofs.FrontBytes.{sound-long}
 use Rattle.demands.specs.OldDisks.{keptSection}
-use Rattle.demands.proofs.files.SectionLists.{stream-long}
 use Rattle.demands.proofs.files.WrittenLoads.{Small}
 use Rattle.demands.proofs.patches.TwoLaws.{fit-unnulled, nulled-many}
-use Rattle.demands.proofs.patches.WrittenOnce.{windows-long}
 
 -- ---- windows that were read
 
@@ -90,16 +85,6 @@ module _ (size : ℕ) (s : List ℕ) where
     kept-small = (bytes-at s u 1, (bytes-at s u 2, (bytes-at s u 3, (bytes-at s u 4, cells-small s u whole))))
 
     module _ (six : head-length ≤ length s) where
-      pub offset-is : offsetOf size s ≡ head-length + length (windowsBytes raws)
-      unfolding offsetOf
-      offset-is =
-          let at : ℕ = afterAll head-length whole in
-          let e = ap length (raw-windows size s (bytes-at s u) (countAt s 0) head-length) in
-          let i = inside size s (countAt s 0) head-length six in
-          omega (arith, e, i, length-append (windowsBytes raws) (drop at s), length-drop at s, length-drop head-length s)
-
       pub salvaged-long : length (salvaged size s) ≡ offsetOf size s + 1
-      salvaged-long =
-          let n : length (windowsBytes (givenOf size s)) ≡ 0 + length (windowsBytes raws) =
-          ap (λ (ws : List Window). length (windowsBytes ws)) (sym raws-kept) ∙ windows-long [] raws in
-          ap length (salvaged-is noChain) ∙ stream-long first-mode noChain (keptSection size s) false refl ∙ omega (arith, n, offset-is)
+      unfolding offsetOf salvaged givenOf
+      salvaged-long = sound-long size s (bytes-at s u) (countAt s 0) six

@@ -17,7 +17,7 @@ use Rattle.grammar.specs.Sent.{bytesOf}
 use Rattle.grammar.specs.Stream.{Section, streamSent}
 use Rattle.grammar.specs.Fits.{SectionFits}
 use Rattle.grammar.specs.Tables.{nullsOff}
-use Rattle.grammar.proofs.SectionBytes.{windowsBytes, stream-bytes}
+use Rattle.grammar.proofs.SectionBytes.{windowsBytes, stream-bytes, nulled-long}
 use Rattle.reader.specs.declared.stream.Stop.{Stop}
 use Rattle.reader.specs.Windows.{windowsStop, windowsOf}
 use Rattle.reader.specs.Stream.{head-length, countAt, streamStop}
@@ -38,7 +38,7 @@ use Rattle.demands.proofs.files.SameBytes.{wanted-same}
 use Rattle.demands.proofs.files.SectionLists.{stream-long}
 use Rattle.demands.proofs.files.WrittenLoads.{any-chain}
 use Rattle.demands.proofs.patches.TwoLaws.{nulled-many}
-use Rattle.demands.proofs.patches.WrittenOnce.{windows-long, again}
+use Rattle.demands.proofs.patches.WrittenOnce.{again}
 use Rattle.demands.proofs.tidy.StreamRead.{stood, file-stop, given-is}
 use Rattle.demands.proofs.tidy.TidiedStream.{fits, is-stream}
 use Rattle.demands.proofs.salvage.KeptWindows.{salvaged-is}
@@ -114,7 +114,7 @@ module _ (l : Loader) (keeps : KeepsSalvage l) (c : Chain) (m s : List ℕ) (d :
   -- as long as it was
   as-long : length (bytesOf (streamSent c first-mode (nullsOff (section a)) [])) ≡ length s
   as-long =
-      stream-long first-mode c (nullsOff (section a)) false refl ∙ omega (arith, s-long, windows-long [] (windows a))
+      stream-long first-mode c (nullsOff (section a)) false refl ∙ omega (arith, s-long, nulled-long (windows a))
 
   has-room : length s ≤ length out → Rescued w
   has-room h = is-done l keeps kind (s ++ after) out order (omega (arith, h, as-long, ap length (read .bytes)))
