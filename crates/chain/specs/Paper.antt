@@ -69,15 +69,21 @@ writing = 0
 abbrev pub checking : ℕ
 checking = 1
 
--- modes: the first, the two serial ones, and the last, which has two preambles
+-- modes: the first, the one whose EPROM is read downward, the two serial ones, the last that reads an EPROM, and the last, which has two preambles
 abbrev pub first-mode : ℕ
 first-mode = 1
+
+abbrev pub downward : ℕ
+downward = 2
 
 abbrev pub serial-external : ℕ
 serial-external = 3
 
 abbrev pub serial-internal : ℕ
 serial-internal = 4
+
+abbrev pub eprom-internal : ℕ
+eprom-internal = 5
 
 abbrev pub two-preambles : ℕ
 two-preambles = 6
@@ -144,11 +150,25 @@ more = 16
 abbrev pub ill-formed : ℕ
 ill-formed = 17
 
+-- document 02, wish 1
+abbrev pub past-eprom : ℕ
+past-eprom = 18
+
+abbrev pub bad-jump : ℕ
+bad-jump = 19
+
 -- document 02, wish 12
 abbrev pub no-head : ℕ
 no-head = 27
 
--- control bits by their weight: bit 2 ends the stream at this device, bit 3 bars checks, bit 4 bars later runs
+-- control bits by their weight: bit 0 keeps the EPROM's address counter at a run's end, bit 1 makes it jump, bit 2 ends the stream at this device, bit 3
+-- bars checks, bit 4 bars later runs
+abbrev pub bit0 : ℕ
+bit0 = 1
+
+abbrev pub bit1 : ℕ
+bit1 = 2
+
 abbrev pub bit2 : ℕ
 bit2 = 4
 
@@ -157,6 +177,12 @@ bit3 = 8
 
 abbrev pub bit4 : ℕ
 bit4 = 16
+
+abbrev pub B0 : ℕ → Bool
+B0 g = eqb (g / bit0 % 2) 1
+
+abbrev pub B1 : ℕ → Bool
+B1 g = eqb (g / bit1 % 2) 1
 
 abbrev pub B2 : ℕ → Bool
 B2 g = eqb (g / bit2 % 2) 1

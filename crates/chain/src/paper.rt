@@ -45,12 +45,16 @@ pub const WRITING: u8 = 0;
 
 pub const CHECKING: u8 = 1;
 
-// modes: the first, the two serial ones, and the last, which has two preambles
+// modes: the first, the one whose EPROM is read downward, the two serial ones, the last that reads an EPROM, and the last, which has two preambles
 pub const FIRST_MODE: u8 = 1;
+
+pub const DOWNWARD: u8 = 2;
 
 pub const SERIAL_EXTERNAL: u8 = 3;
 
 pub const SERIAL_INTERNAL: u8 = 4;
+
+pub const EPROM_INTERNAL: u8 = 5;
 
 pub const TWO_PREAMBLES: u8 = 6;
 
@@ -96,10 +100,20 @@ pub const MORE: u8 = 16;
 
 pub const ILL_FORMED: u8 = 17;
 
+// document 02, wish 1
+pub const PAST_EPROM: u8 = 18;
+
+pub const BAD_JUMP: u8 = 19;
+
 // document 02, wish 12
 pub const NO_HEAD: u8 = 27;
 
-// control bits by their weight: bit 2 ends the stream at this device, bit 3 bars checks, bit 4 bars later runs
+// control bits by their weight: bit 0 keeps the EPROM's address counter at a run's end, bit 1 makes it jump, bit 2 ends the stream at this device, bit 3
+// bars checks, bit 4 bars later runs
+pub const BIT_0: u8 = 1;
+
+pub const BIT_1: u8 = 2;
+
 pub const BIT_2: u8 = 4;
 
 pub const BIT_3: u8 = 8;

@@ -16,11 +16,10 @@ use chain::state::open_number;
 use chain::state::state_number;
 ghost use mathlib.Core.Path.{_≡_};
 ghost use lib.Dec.{eqb};
-ghost use lib.ListN.{length};
-ghost use Rattle.chain.specs.Paper.{writing, checking, done};
+ghost use Rattle.chain.specs.Paper.{writing, checking, more};
 ghost use Rattle.chain.specs.Rules.{pick};
-ghost use Rattle.chain.specs.State.{feedNumber};
-ghost use Rattle.machine.specs.Calls.{Start, Slice, Byte, Drop, unfed, refuseOf, aheadOf};
+ghost use Rattle.machine.specs.Run.{run, runOf};
+ghost use Rattle.machine.specs.Calls.{Start, Slice, Byte, Drop, unfed, fedOf, refuseOf, aheadOf};
 
 // The number, and the run's bytes taken and mismatches so far.
 #[repr(C)]
@@ -95,11 +94,11 @@ fn not_fed(c: Chain, n: u8) -> Fed
     Fed { chain: c, answer }
 }
 
-// Feeds a run that takes bytes. Called twice, this is a function of its own: what tests the state before it then tests the chain where it
-// was lent, and no copy of it is made for the test.
-fn taken(c: Chain, mem: &mut [u8], s: &[u8]) -> Fed
-    requires { ⌜ feedNumber c (length (now mem)) ≡ done ⌝ }
-    ensures { λ r. ⌜ Slice c (now (mem .entry)) (now (s .entry)) r (now (mem .exit)) ⌝ }
+// Feeds an open run, its state tested before: for slice and byte, and for calls above the machine. Called more than once, this is a function of its own: what tests the
+// state before it then tests the chain where it was lent, and no copy of it is made for the test.
+pub fn taken(c: Chain, mem: &mut [u8], s: &[u8]) -> Fed
+    ensures { λ r. ⌜ r ≡ fedOf (runOf (run c (now (mem .entry)) more) (now (s .entry))) ⌝ }
+    ensures { λ _. ⌜ now (mem .exit) ≡ runOf (run c (now (mem .entry)) more) (now (s .entry)) .memory ⌝ }
 {
     finish(feed(c, mem, s))
 }
