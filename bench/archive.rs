@@ -1,4 +1,5 @@
 //! The archive, through by_pointer.c.
+use crate::eprom::Fetcher;
 use crate::files::Hunted;
 use crate::loader::Answer;
 use crate::salvage::Salvaged;
@@ -32,6 +33,9 @@ extern "C" {
     fn raced_start(c: *mut Chain, mem: *const u8, n: usize, mode: u8, check: u8) -> u8;
     fn raced_slice(c: *mut Chain, mem: *mut u8, n: usize, s: *const u8, s_n: usize, a: *mut Answered);
     fn raced_byte(c: *mut Chain, mem: *mut u8, n: usize, b: u8, a: *mut Answered);
+    fn raced_fetch(
+        c: *mut Chain, f: *mut Fetcher, mem: *mut u8, n: usize, eprom: *const u8, eprom_n: usize, wanted: usize, a: *mut Answered,
+    );
     fn raced_drop(c: *mut Chain, mem: *const u8, n: usize) -> u8;
     fn raced_pick_up(c: *mut Chain, mem: *const u8, n: usize, saved: *const u8, saved_n: usize) -> u8;
     fn raced_closing(c: *const Chain, mem: *const u8, n: usize, out: *mut u8, out_n: usize) -> usize;
@@ -71,6 +75,12 @@ impl Chain {
     pub fn byte(&mut self, memory: &mut [u8], b: u8) -> Answer {
         let mut a = Answered { number: 0, taken: 0, mismatches: 0 };
         unsafe { raced_byte(self, memory.as_mut_ptr(), memory.len(), b, &mut a) };
+        Answer { number: a.number, taken: a.taken, mismatches: a.mismatches }
+    }
+
+    pub fn fetch(&mut self, f: &mut Fetcher, memory: &mut [u8], eprom: &[u8], n: usize) -> Answer {
+        let mut a = Answered { number: 0, taken: 0, mismatches: 0 };
+        unsafe { raced_fetch(self, f, memory.as_mut_ptr(), memory.len(), eprom.as_ptr(), eprom.len(), n, &mut a) };
         Answer { number: a.number, taken: a.taken, mismatches: a.mismatches }
     }
 

@@ -51,6 +51,14 @@ void raced_salvage(uint8_t kind, const uint8_t *s, size_t s_n, uint8_t *out, siz
     *r = at6000_salvage(kind, s, s_n, out, out_n);
 }
 
+void raced_fetch(at6000_chain *c, at6000_fetcher *f, uint8_t *mem, size_t n, const uint8_t *eprom, size_t eprom_n, size_t wanted,
+                 at6000_answer *a) {
+    at6000_fetched r = at6000_fetch(*c, *f, mem, n, eprom, eprom_n, wanted);
+    *c = r.chain;
+    *f = r.fetcher;
+    *a = r.answer;
+}
+
 uint32_t raced_list(uint8_t kind, uint8_t mode, const uint8_t *s, size_t s_n, uint16_t *starts, size_t starts_n, uint16_t *ends,
                     size_t ends_n, uint32_t *offsets, size_t offsets_n) {
     return at6000_list(kind, mode, s, s_n, starts, starts_n, ends, ends_n, offsets, offsets_n).taken;

@@ -29,7 +29,7 @@ pub enum Awaited {
 use Awaited::*;
 
 impl Awaited {
-    fn number(self) -> u8 {
+    pub fn number(self) -> u8 {
         match self {
             Preamble => 0,
             Second => 1,
@@ -171,7 +171,7 @@ impl Chain {
         fields && control
     }
 
-    fn refusal(&self, memory: usize) -> Option<u8> {
+    pub fn refusal(&self, memory: usize) -> Option<u8> {
         if self.bad_chain(memory) {
             return Some(1);
         }
@@ -230,7 +230,13 @@ impl Chain {
         if let Some(n) = self.refusal(memory.len()) {
             return refused(n);
         }
-        let Some(mut run) = self.run else { return refused(4) };
+        let Some(run) = self.run else { return refused(4) };
+        self.taken(run, memory, bytes, differ)
+    }
+
+    /// The bytes of an open run, the state tested before.
+    #[inline(always)]
+    pub fn taken(&mut self, mut run: Run, memory: &mut [u8], bytes: &[u8], differ: Differ) -> Answer {
         let mut cells = self.cells(run.device);
         let mut rest = bytes;
         while let Some((&b, after)) = rest.split_first() {

@@ -1,6 +1,7 @@
 //! The archive raced against safe Rust and against memcpy. A row is one job; its runners do the same work and are held to the same
 //! result before they are timed. Printed: nanoseconds, and ratios to the first runner of the row.
 mod archive;
+mod eprom;
 mod files;
 mod loader;
 mod race;
@@ -279,6 +280,58 @@ impl Bench {
         );
     }
 
+    /// A stream into a fresh chain of devices of kind 10, fetched at once from the mode's first counter: start and fetch. Beside it the
+    /// slice call, which is lent the same bytes in a row.
+    fn fetch(&self, job: &str, devices: usize, count: usize, length: usize, mode: u8) {
+        let kinds = vec![10; devices];
+        let (starts, ends) = windows(count, length);
+        let mut stream = Vec::new();
+        for device in 0..devices {
+            section(&mut stream, &starts, &ends, &noise(count * length, 7 + device as u64));
+        }
+        stream.push(POSTAMBLE);
+        let (s, n) = (&stream[..], stream.len());
+        let f = eprom::Fetcher::new(mode);
+        let mut bytes = noise(eprom::COUNTS as usize, 5);
+        for (i, b) in s.iter().enumerate() {
+            bytes[if mode == 2 { f.counter as usize - i } else { i }] = *b;
+        }
+        let e = &bytes[..];
+        let (c1, c2) = (archive::Chain::new(&kinds), loader::Chain::new(&kinds));
+        let (mut m1, mut m2, mut m3) = (vec![0; devices * BIG], vec![0; devices * BIG], vec![0; devices * BIG]);
+        let wanted = Answer { number: 0, taken: n as u32, mismatches: 0 };
+        let by_archive = |m: &mut [u8]| {
+            let (mut c, mut f) = (black_box(c1), black_box(f));
+            c.start(m, mode, false);
+            assert_eq!(c.fetch(&mut f, black_box(m), black_box(e), n), wanted);
+            f
+        };
+        let by_rust = |m: &mut [u8]| {
+            let (mut c, mut f) = (black_box(c2), black_box(f));
+            c.start(m, mode, false);
+            assert_eq!(eprom::fetch(&mut c, &mut f, black_box(m), black_box(e), n), wanted);
+            f
+        };
+        let by_slice = |m: &mut [u8]| {
+            let mut c = black_box(c1);
+            c.start(m, mode, false);
+            assert_eq!(c.slice(black_box(m), black_box(s)), wanted);
+        };
+        assert!(by_archive(&mut m1) == f && by_rust(&mut m2) == f);
+        by_slice(&mut m3);
+        assert!(m1 == m2 && m2 == m3 && m1 != vec![0; devices * BIG]);
+        let (from, mut to) = (noise(devices * count * length, 3), vec![0; devices * count * length]);
+        self.row(
+            &format!("fetch, {job}, mode {mode}"),
+            vec![
+                runner("archive", || assert_eq!(by_archive(&mut m1).counter, f.counter)),
+                runner("Rust", || assert_eq!(by_rust(&mut m2).counter, f.counter)),
+                runner("slice", || by_slice(&mut m3)),
+                runner("memcpy", || black_box(&mut to[..]).copy_from_slice(black_box(&from))),
+            ],
+        );
+    }
+
     /// The shortest ways out: of a window of cells 9 to 11 at its end's low byte, and of a check at its control byte. One byte each.
     fn closing(&self, job: &str, check: bool, after: usize, wanted: u8) {
         let memory = noise(BIG, 9);
@@ -377,6 +430,11 @@ fn main() {
     bench.tidies();
     bench.salvage("salvage, 255 of 40, the last cut", &windows(255, 40).0, &[40; 255], 20);
     bench.salvage("salvage, 16,381 and a cut one", &[0, 9], &[BIG, 3], 1);
+    for mode in [1, 2] {
+        bench.fetch("one of 16,381", 1, 1, BIG, mode);
+        bench.fetch("chain of four", 4, 1, BIG, mode);
+        bench.fetch("255 of 40", 1, 255, 40, mode);
+    }
     bench.closing("closing at 11, 00 alone", false, 10, 0x00);
     bench.closing("closing of a check at 2", true, 1, 0x08);
     bench.stopped();

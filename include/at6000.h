@@ -23,9 +23,9 @@ extern "C" {
 enum at6000_number {
     AT6000_DONE = 0,            /* done; a run accepted */
     AT6000_BAD_CHAIN = 1,       /* count not 1 to 8, unknown kind, total over 65536, or lent memory of another length */
-    AT6000_BAD_MODE = 2,        /* mode not 1 to 6 */
+    AT6000_BAD_MODE = 2,        /* mode not 1 to 6; fetch in a mode that has no EPROM, 3, 4 or 6 */
     AT6000_RUN_OPEN = 3,        /* start or pick-up while a run is open */
-    AT6000_NO_RUN = 4,          /* byte, slice, closing, save or drop with no run open */
+    AT6000_NO_RUN = 4,          /* byte, slice, fetch, closing, save or drop with no run open */
     AT6000_NO_PREAMBLE = 5,     /* a preamble is awaited and the byte is not B2; hunt without a position */
     AT6000_BARRED = 6,          /* B2 that would begin a device whose stored bit 4 is set */
     AT6000_NO_CHECK = 7,        /* check, and the device's stored bit 3 is set, or the control byte sets it */
@@ -37,9 +37,11 @@ enum at6000_number {
     AT6000_BAD_TABLES = 13,     /* writer: start and end tables differ in length or exceed 255 */
     AT6000_BAD_DATA = 14,       /* writer: data length is not the sum of the windows */
     AT6000_TOO_SHORT = 15,      /* output or table shorter than needed */
-    AT6000_MORE = 16,           /* slice used up, run still open */
+    AT6000_MORE = 16,           /* slice used up, or as many bytes fetched as asked for, run still open */
     AT6000_ILL_FORMED = 17,     /* saved place not well formed; or a lent state whose unused kinds or registers are not zero or
-                                   whose open place is not well formed */
+                                   whose open place is not well formed; or a fetcher's counter above 1FFFF */
+    AT6000_PAST_EPROM = 18,     /* fetch: the counter is not below the EPROM's length, run still open */
+    AT6000_BAD_JUMP = 19,       /* fetch: the external address to jump to is above 1FFFF */
     AT6000_NO_HEAD = 27         /* salvage: fewer than six bytes */
 };
 
@@ -68,6 +70,12 @@ typedef struct at6000_hunted { uint8_t number, p, left; size_t length; } at6000_
 typedef struct at6000_listed { uint8_t number, windows, control, address[3]; uint32_t taken; } at6000_listed;
 typedef struct at6000_salvaged { uint8_t number, kept, announced, end; size_t offset, length; } at6000_salvaged;
 
+/* What boots a board from its EPROM: the address counter, 17 bits, and of the run that it fetches, zero until taken, the first
+ * device's control byte and external address, low byte first, and whether that device's first null byte was taken, 0 for not
+ * yet. A stop keeps it beside the saved place: keep it, and pass it on. */
+typedef struct at6000_fetcher { uint32_t counter; uint8_t control, address[3], nulled; } at6000_fetcher;
+typedef struct at6000_fetched { at6000_chain chain; at6000_answer answer; at6000_fetcher fetcher; } at6000_fetched;
+
 /* The layout is part of the interface: a line that does not compile says that this compiler has another. */
 #define AT6000_IS(name, fact) typedef char at6000_is_##name[(fact) ? 1 : -1]
 AT6000_IS(place, sizeof(at6000_place) == 24 && offsetof(at6000_place, start) == 8 && offsetof(at6000_place, taken) == 16);
@@ -82,6 +90,11 @@ AT6000_IS(listed, sizeof(at6000_listed) == 12 && offsetof(at6000_listed, address
 AT6000_IS(salvaged, sizeof(at6000_salvaged) == 24 && offsetof(at6000_salvaged, kept) == 1
                         && offsetof(at6000_salvaged, announced) == 2 && offsetof(at6000_salvaged, end) == 3
                         && offsetof(at6000_salvaged, offset) == 8 && offsetof(at6000_salvaged, length) == 16);
+AT6000_IS(fetcher, sizeof(at6000_fetcher) == 12 && offsetof(at6000_fetcher, counter) == 0
+                       && offsetof(at6000_fetcher, control) == 4 && offsetof(at6000_fetcher, address) == 5
+                       && offsetof(at6000_fetcher, nulled) == 8);
+AT6000_IS(fetched, sizeof(at6000_fetched) == 68 && offsetof(at6000_fetched, answer) == 44
+                       && offsetof(at6000_fetched, fetcher) == 56);
 #undef AT6000_IS
 
 /* A new state: zero registers, no run open; kinds past the count are taken as zero. Memory is left as lent.
@@ -166,6 +179,28 @@ at6000_written at6000_tidy(uint8_t kind, const uint8_t *s, size_t s_len, uint8_t
  * output one byte longer than s always has room. It does not hunt: see tidy. Gives 1 (unknown kind), 27, 5, then 15, else 0;
  * refused, all but the number is 0. Outputs as for closing. */
 at6000_salvaged at6000_salvage(uint8_t kind, const uint8_t *s, size_t s_len, uint8_t *out, size_t out_len);
+
+/* A fetcher as a board has it when it is switched on: the counter at 00000, in mode 2 at 1FFFF, nothing kept. Any other mode, one
+ * that there is not among them, is like mode 1. */
+at6000_fetcher at6000_fetcher_new(uint8_t mode);
+
+/* Fetches n bytes from the EPROM and feeds them to the open run, or as many as the run takes. The counter steps up by one each
+ * byte, in mode 2 down, and wraps past either end of its 17 bits. Where the first device's control byte sets bit 1, the counter
+ * takes the external address after the first null byte of that device's section; with no windows there is no jump. At the run's
+ * end bit 0 of that control byte decides: clear sets the counter back to where the run's mode starts it, set keeps its next
+ * value; and nothing else is kept of the run. A run that ends before its control byte was taken has bit 0 clear. What was kept
+ * of another run is put away when the first preamble is fetched.
+ * Bytes fed directly, the closing bytes among them, and a reset have no fetcher to change: a run that was stopped, closed so and
+ * started afresh boots as it did if it is lent the counter with which it began.
+ * Gives 1, 17 (the state, or a counter above 1FFFF, and nothing else of the fetcher), 4 (with counts 0 and 0), 2 (a mode other
+ * than 1, 2 and 5, with the run's counts so far), and all is as lent; then byte by byte 18 where the counter is not below
+ * eprom_len: no byte is taken and the run stays open, to go on with a longer EPROM; the bytes' own numbers as for slice; 19 at the
+ * first null byte where the jump is above 1FFFF: that byte counts as taken and closes the run, and with bit 0 set the counter is
+ * the one after it; 16 after n bytes, n = 0 too, even past the EPROM. The counts are else as for slice. The first null byte of the
+ * section is the first that is fetched: one fed directly leaves no mark. An EPROM longer than 131072 bytes is taken, and its rest
+ * is never read. */
+at6000_fetched at6000_fetch(at6000_chain c, at6000_fetcher f, uint8_t *mem, size_t mem_len, const uint8_t *eprom, size_t eprom_len,
+                            size_t n);
 
 /* In place: the chain is updated where the caller keeps it. Numbers, answers and what is left are those of the calls above. */
 uint8_t at6000_start_in(at6000_chain *c, const uint8_t *mem, size_t mem_len, uint8_t mode, uint8_t check);

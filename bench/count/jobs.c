@@ -7,7 +7,7 @@
 #include <stdlib.h>
 #include <string.h>
 
-enum { BIG = 16381, MOST = 255, HUNTED = 65536, ROOM = 4 * (BIG + 16) };
+enum { BIG = 16381, MOST = 255, HUNTED = 65536, ROOM = 4 * (BIG + 16), EPROM = 131072 };
 
 static int told;
 
@@ -32,6 +32,8 @@ static const uint8_t kinds[8] = {10, 10, 10, 10}, address[3];
 static size_t mem_len, length, windows, data_len;
 static uint16_t starts[MOST], ends[MOST], listed[2][MOST];
 static uint32_t offsets[MOST];
+static uint8_t eprom[EPROM], mode;
+static at6000_fetcher fetcher;
 
 /* A chain of devices of kind 10 with nothing in it, and a stream that has so many windows of that length for each. */
 static void lay(size_t devices, size_t count, size_t each)
@@ -122,6 +124,12 @@ static void list(void)
 
 static void tidy(void) { number = at6000_tidy(10, stream, length, out, sizeof out).number; }
 static void salvage(void) { number = at6000_salvage(10, stream, length, out, sizeof out).number; }
+static void fetch(void)
+{
+    at6000_fetched r = at6000_fetch(c, fetcher, mem, mem_len, eprom, EPROM, length);
+    c = r.chain;
+    number = r.answer.number;
+}
 
 /* Twice, from the same chain: once to warm up, then between the marks. */
 static void count(const char *name, void (*job)(void), int wanted)
@@ -161,6 +169,20 @@ static void load(const char *what, size_t devices, size_t n, size_t each)
     open_run();
     snprintf(name, sizeof name, "%s, %s", check ? "check" : "write", what);
     count(name, slice, AT6000_DONE);
+}
+
+/* The stream that was laid, in an EPROM from the mode's first counter on. */
+static void fetched(const char *what, size_t devices, size_t n, size_t each)
+{
+    char name[64];
+
+    lay(devices, n, each);
+    c = at6000_start(c, mem, mem_len, mode, 0).chain;
+    fetcher = at6000_fetcher_new(mode);
+    for (size_t i = 0; i < length; i++)
+        eprom[mode == 2 ? fetcher.counter - i : fetcher.counter + i] = stream[i];
+    snprintf(name, sizeof name, "fetch, %s, mode %d", what, mode);
+    count(name, fetch, AT6000_DONE);
 }
 
 static void hunted(const char *name, unsigned p)
@@ -217,6 +239,11 @@ int main(int argc, char **argv)
     move(64, 0);
     length -= 21; /* 20 bytes of data, and the postamble */
     count("salvage, 255 of 40, the last cut", salvage, AT6000_DONE);
+    for (mode = 1; mode <= 2; mode++) {
+        fetched("one of 16,381", 1, 1, BIG);
+        fetched("chain of four", 4, 1, BIG);
+        fetched("255 of 40", 1, MOST, 40);
+    }
     lay(1, MOST, 8);
     stop(6 + 13 + 4); /* the second window starts at 64, and its end's high byte is there */
     count("closing at 11, 00 alone", closing, AT6000_DONE);

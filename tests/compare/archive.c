@@ -10,9 +10,9 @@
 #include <stdlib.h>
 #include <string.h>
 
-enum { FRAME = 1 << 20, ARENA = 1 << 21, GUARD = 32, PIECES = 16 };
-enum { NEW, RESET, START, BYTE, SLICE, CLOSING, SAVE, PICK_UP, HUNT, WRITE, LIST, DROP, TIDY, SALVAGE };
-enum { MADE = 1, FED, WRITTEN, LISTED, MEMORY, OUTPUT, STARTS, ENDS, OFFSETS, HUNTED, SALVAGED };
+enum { FRAME = 1 << 20, ARENA = 1 << 21, GUARD = 32, PIECES = 16, MOST_EPROM = (1 << 17) + 128 };
+enum { NEW, RESET, START, BYTE, SLICE, CLOSING, SAVE, PICK_UP, HUNT, WRITE, LIST, DROP, TIDY, SALVAGE, FETCHER_NEW, FETCH };
+enum { MADE = 1, FED, WRITTEN, LISTED, MEMORY, OUTPUT, STARTS, ENDS, OFFSETS, HUNTED, SALVAGED, FETCHER, FETCHED };
 enum { GUARD_TOUCHED = 1, INPUT_CHANGED = 2 };
 
 static void stop(const char *why) {
@@ -57,6 +57,18 @@ static at6000_chain take_chain(void) {
     c.place.taken = take32();
     c.place.mismatches = take32();
     return c;
+}
+
+/* A fetcher, its padding junk likewise. */
+static at6000_fetcher take_fetcher(void) {
+    static uint8_t junk;
+    at6000_fetcher f;
+    memset(&f, junk += 57, sizeof f);
+    f.counter = take32();
+    f.control = take8();
+    memcpy(f.address, take(3), 3);
+    f.nulled = take8();
+    return f;
 }
 
 /* The reply. */
@@ -133,6 +145,22 @@ static void put_salvaged(at6000_salvaged salvaged) {
     put(&length, 8);
 }
 
+static void put_fetcher(at6000_fetcher f) {
+    put32(f.counter);
+    put8(f.control);
+    put(f.address, 3);
+    put8(f.nulled);
+}
+
+static void put_fetched(at6000_fetched fetched) {
+    put8(FETCHED);
+    put8(fetched.answer.number);
+    put32(fetched.answer.taken);
+    put32(fetched.answer.mismatches);
+    put_chain(&fetched.chain);
+    put_fetcher(fetched.fetcher);
+}
+
 static void put_bytes(uint8_t tag, const void *bytes, size_t length) {
     put8(tag);
     put32((uint32_t)length);
@@ -178,6 +206,44 @@ static uint8_t *lend_output(size_t length, uint8_t fill, size_t alignment) {
     size_t i;
     for (i = 0; i < length; i++) bytes[i] = (uint8_t)(fill + 31 * i);
     return bytes;
+}
+
+/* The EPROM: it is long, so it is not made anew at each request. call.rs has the same bytes where nothing was laid. Of
+ * the two copies one is lent, and the other is what it must still be. */
+static uint8_t eprom_room[GUARD + MOST_EPROM + GUARD], eprom_same[MOST_EPROM];
+
+static void unlay(size_t address) {
+    eprom_room[GUARD + address] = eprom_same[address] = (uint8_t)(31 * address + 7 * (address / 256));
+}
+
+static void make_eprom(void) {
+    for (size_t i = 0; i < MOST_EPROM; i++) unlay(i);
+}
+
+/* Lends the front of it with these bytes laid: four for the address, one for the byte. */
+static const uint8_t *lend_eprom(size_t length, const uint8_t *laid, size_t count) {
+    if (piece_count == PIECES || length > MOST_EPROM) stop("too much is lent");
+    for (size_t i = 0; i < count; i++, laid += 5) {
+        uint32_t address;
+        memcpy(&address, laid, 4);
+        if (address >= MOST_EPROM) stop("a byte is laid past the EPROM");
+        eprom_room[GUARD + address] = eprom_same[address] = laid[4];
+    }
+    memset(eprom_room, 0xA7, GUARD);
+    memset(eprom_room + GUARD + length, 0x59, GUARD);
+    pieces[piece_count].bytes = eprom_room + GUARD;
+    pieces[piece_count].length = length;
+    pieces[piece_count++].same_as = eprom_same;
+    return eprom_room + GUARD;
+}
+
+static void unlay_eprom(size_t length, const uint8_t *laid, size_t count) {
+    for (size_t i = 0; i < count; i++, laid += 5) {
+        uint32_t address;
+        memcpy(&address, laid, 4);
+        unlay(address);
+    }
+    for (size_t i = length; i < length + GUARD && i < MOST_EPROM; i++) unlay(i);
 }
 
 static uint8_t faults(void) {
@@ -410,15 +476,48 @@ static void make_salvage(void) {
     }
 }
 
+static void make_fetcher_new(void) {
+    put8(FETCHER);
+    put_fetcher(at6000_fetcher_new(take8()));
+}
+
+/* Fetched at once, then on copies of the same in two parts. The EPROM is looked at before it is made as it was. */
+static void make_fetch(void) {
+    at6000_chain c = take_chain();
+    size_t mem_len = take32(), eprom_len, count;
+    const uint8_t *before = take(mem_len), *laid, *eprom;
+    uint8_t *mem = lend_copy(before, mem_len, 1), *mem_two = lend_copy(before, mem_len, 1);
+    at6000_fetcher f = take_fetcher();
+    at6000_fetched fetched;
+    uint64_t n;
+    eprom_len = take32();
+    count = take32();
+    laid = take(5 * count);
+    memcpy(&n, take(8), 8);
+    eprom = lend_eprom(eprom_len, laid, count);
+    fetched = at6000_fetch(c, f, mem, mem_len, eprom, eprom_len, n);
+    put_fetched(fetched);
+    put_bytes(MEMORY, mem, mem_len);
+    fetched = at6000_fetch(c, f, mem_two, mem_len, eprom, eprom_len, n / 2);
+    if (fetched.answer.number == AT6000_MORE)
+        fetched = at6000_fetch(fetched.chain, fetched.fetcher, mem_two, mem_len, eprom, eprom_len, n - n / 2);
+    put_fetched(fetched);
+    put_bytes(MEMORY, mem_two, mem_len);
+    reply[0] = faults();
+    piece_count--;
+    unlay_eprom(eprom_len, laid, count);
+}
+
 static void (*const calls[])(void) = {
     make_new, make_reset, make_start, make_byte, make_slice, make_closing,
     make_save, make_pick_up, make_hunt, make_write, make_list, make_drop, make_tidy,
-    make_salvage
+    make_salvage, make_fetcher_new, make_fetch
 };
 
 int main(void) {
     uint8_t length[4];
     static char in[FRAME], out[FRAME];
+    make_eprom();
     setvbuf(stdin, in, _IOFBF, sizeof in);
     setvbuf(stdout, out, _IOFBF, sizeof out);
     while (fread(length, 1, 4, stdin) == 4) {
@@ -433,10 +532,10 @@ int main(void) {
         skew++;
         put8(0);
         call = take8();
-        if (call > SALVAGE) stop("an unknown call");
+        if (call > FETCH) stop("an unknown call");
         calls[call]();
         if (request_at != request_length) stop("a request is too long");
-        reply[0] = faults();
+        reply[0] |= faults();
         frame = (uint32_t)reply_length;
         memcpy(length, &frame, 4);
         fwrite(length, 1, 4, stdout);

@@ -2,6 +2,7 @@
 
 use crate::model::chain::{new, reset, Chain, Made};
 use crate::model::closing::closing;
+use crate::model::eprom::{fetch, fetcher_new, Fetched, Fetcher};
 use crate::model::hunt::{hunt, Hunted};
 use crate::model::lister::{list, Listed, Tables};
 use crate::model::machine::{byte, drop, slice, start, Fed};
@@ -11,6 +12,7 @@ use crate::model::salvage::{salvage, Salvaged};
 use crate::model::saved::{pick_up, save};
 use crate::model::tidy::tidy;
 use crate::model::writer::{write, Order};
+use std::sync::OnceLock;
 
 /// An output before the call: how long, and the pattern that a refusal has to leave in it.
 #[derive(Clone, Copy, Debug)]
@@ -30,6 +32,34 @@ pub fn pattern(length: usize, fill: u8) -> Vec<u8> {
     (0..length).map(|index| fill.wrapping_add((31 * index) as u8)).collect()
 }
 
+/// What the EPROM has where nothing was laid: archive.c has the same. Neighbours differ, and so do both ends.
+fn unlaid(address: usize) -> u8 {
+    (31 * address + 7 * (address / 256)) as u8
+}
+
+/// An EPROM: how long, and the bytes laid into it, a later one over an earlier one.
+#[derive(Clone, Debug)]
+pub struct Eprom {
+    pub length: usize,
+    pub laid: Vec<(u32, u8)>,
+}
+
+impl Eprom {
+    pub fn bytes(&self) -> Vec<u8> {
+        static UNLAID: OnceLock<Vec<u8>> = OnceLock::new();
+        let mut bytes = UNLAID.get_or_init(|| (0..MOST_EPROM).map(unlaid).collect())[..self.length].to_vec();
+        for &(address, byte) in &self.laid {
+            if let Some(place) = bytes.get_mut(address as usize) {
+                *place = byte;
+            }
+        }
+        bytes
+    }
+}
+
+/// The longest EPROM that is lent: some bytes more than a counter reaches.
+pub const MOST_EPROM: usize = 131_072 + 128;
+
 #[derive(Clone, Debug)]
 pub enum Call {
     New { count: u8, kinds: [u8; 8], memory: Vec<u8> },
@@ -46,6 +76,8 @@ pub enum Call {
     Drop { chain: Chain, memory: Vec<u8> },
     Tidy { kind: u8, stream: Vec<u8>, room: Room },
     Salvage { kind: u8, stream: Vec<u8>, room: Room },
+    FetcherNew { mode: u8 },
+    Fetch { chain: Chain, memory: Vec<u8>, fetcher: Fetcher, eprom: Eprom, count: u64 },
 }
 
 /// A part of a reply, in the order in which archive.c puts them.
@@ -57,6 +89,8 @@ pub enum Part {
     Hunted(Hunted),
     Listed(Listed),
     Salvaged(Salvaged),
+    Fetcher(Fetcher),
+    Fetched(Fetched),
     Memory(Vec<u8>),
     Output(Vec<u8>),
     Starts(Vec<u16>),
@@ -73,6 +107,7 @@ impl Part {
             Part::Hunted(hunted) => Some(hunted.number),
             Part::Listed(listed) => Some(listed.number),
             Part::Salvaged(salvaged) => Some(salvaged.number),
+            Part::Fetched(fetched) => Some(fetched.answer.number),
             _ => None,
         }
     }
@@ -172,6 +207,13 @@ pub fn by_model(call: &Call) -> Vec<Part> {
                 parts.extend([Part::Salvaged(again), Part::Output(sound)]);
             }
             parts
+        }
+        Call::FetcherNew { mode } => vec![Part::Fetcher(fetcher_new(*mode))],
+        Call::Fetch { chain, memory, fetcher, eprom, count } => {
+            let mut memory = memory.clone();
+            let once = fetch(*chain, *fetcher, &mut memory, &eprom.bytes(), *count);
+            // Fetched in two parts, it is the same run.
+            vec![Part::Fetched(once), Part::Memory(memory.clone()), Part::Fetched(once), Part::Memory(memory)]
         }
     }
 }

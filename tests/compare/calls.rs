@@ -1,5 +1,6 @@
 //! One random call on a state, refusals and their combinations included, so that the order of the numbers shows.
 
+use crate::boards;
 use crate::call::{Call, Room};
 use crate::chains::{large, make_bad, register, sound, Lent};
 use crate::damage::damage;
@@ -15,7 +16,7 @@ use crate::states::{any_place, close, open, open_at};
 use crate::streams;
 
 /// A state and its memory: a run open or not; now and then ill formed, a bad chain, both, or any bytes at all.
-fn lent(random: &mut Random, often_open: bool) -> Lent {
+pub fn lent(random: &mut Random, often_open: bool) -> Lent {
     let mut lent = sound(random);
     if random.once_in(10) != often_open {
         open(random, &mut lent.chain);
@@ -38,7 +39,7 @@ fn lent(random: &mut Random, often_open: bool) -> Lent {
     lent
 }
 
-fn sound_run(lent: &Lent) -> bool {
+pub fn sound_run(lent: &Lent) -> bool {
     lent.chain.place.running == 1 && state_number(&lent.chain, lent.memory.len()).is_none()
 }
 
@@ -65,7 +66,7 @@ pub fn room(random: &mut Random, needed: usize) -> Room {
 
 /// A call of any name.
 pub fn any(random: &mut Random) -> Call {
-    match random.below(121) {
+    match random.below(136) {
         0..=5 => new(random),
         6..=10 => reset(random),
         11..=19 => start(random),
@@ -79,6 +80,8 @@ pub fn any(random: &mut Random) -> Call {
         95..=99 => stateless::list_call(random),
         100..=107 => stateless::tidy_call(random),
         108..=115 => disks::salvage_call(random),
+        116..=129 => boards::fetch_call(random),
+        130 => Call::FetcherNew { mode: mode(random) },
         _ => drop(random),
     }
 }
@@ -138,7 +141,7 @@ fn slice(random: &mut Random) -> Call {
 }
 
 /// An open run inside a window of a larger kind: closing at 9 and 11 turns on high bytes.
-fn large_window(random: &mut Random) -> Lent {
+pub fn large_window(random: &mut Random) -> Lent {
     let mut lent = large(random);
     let awaited = random.pick(&[AT_START_LOW, AT_END_LOW, AT_END_LOW, AT_DATA]);
     let check = random.below(2) as u8;

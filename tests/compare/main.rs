@@ -5,12 +5,14 @@
 //! again.
 #![forbid(unsafe_code)]
 
+mod boards;
 mod call;
 mod calls;
 mod chains;
 mod damage;
 mod disks;
 mod ends;
+mod jumps;
 mod meanings;
 mod model;
 mod patches;
@@ -89,7 +91,7 @@ struct Outcome {
 }
 
 /// Makes the paper's cases, then random calls up to a number of them: single ones, long runs, patches written twice,
-/// old disks.
+/// old disks, boards booted from their EPROM.
 fn ask(seed: u64, calls: u64, to_archive: ChildStdin, to_comparer: Sender<Asked>) -> Outcome {
     let mut random = Random::new(seed);
     let mut asker = Asker { to_archive, to_comparer, batch: Vec::new(), tally: Tally::default(), asked: 0 };
@@ -101,6 +103,8 @@ fn ask(seed: u64, calls: u64, to_archive: ChildStdin, to_comparer: Sender<Asked>
             complaints.extend(meanings::one_patch(&mut random, &mut |call| asker.make(call)));
         } else if random.once_in(100) {
             complaints.extend(disks::one_disk(&mut random, &mut |call| asker.make(call)));
+        } else if random.once_in(100) {
+            complaints.extend(boards::one_board(&mut random, &mut |call| asker.make(call)));
         } else {
             let call = calls::any(&mut random);
             asker.make(call);

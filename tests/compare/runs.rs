@@ -163,6 +163,7 @@ impl Run<'_, '_> {
             match part {
                 Part::Made(made) => self.chain = made.chain,
                 Part::Fed(fed) => self.chain = fed.chain,
+                Part::Fetched(fetched) => self.chain = fetched.chain,
                 Part::Memory(memory) => self.memory = memory.clone(),
                 _ => (),
             }

@@ -2,6 +2,7 @@
 
 use crate::call::{Call, Part, Room};
 use crate::model::chain::Chain;
+use crate::model::eprom::Fetcher;
 use std::fmt::Write;
 
 /// The bytes in hex, a long row by its length and its ends.
@@ -60,7 +61,19 @@ pub fn call(call: &Call) -> String {
         Call::Tidy { kind, stream, room: out } | Call::Salvage { kind, stream, room: out } => {
             format!("kind {kind} stream {}\n    {}", hex(stream), room(out))
         }
+        Call::FetcherNew { mode } => format!("mode {mode}"),
+        Call::Fetch { chain, memory, fetcher: f, eprom, count } => {
+            let laid: Vec<String> =
+                eprom.laid.iter().take(100).map(|(at, byte)| format!("{at:05X}:{byte:02X}")).collect();
+            let eprom = format!("EPROM of {} with {} bytes laid: {}", eprom.length, eprom.laid.len(), laid.join(" "));
+            format!("{}\n    {}\n    {eprom}\n    {count} to be fetched", lent(chain, memory), fetcher(f))
+        }
     }
+}
+
+fn fetcher(fetcher: &Fetcher) -> String {
+    let Fetcher { counter, control, address, nulled } = fetcher;
+    format!("counter {counter:05X} control {control:02X} address {address:02X?} nulled {nulled}")
 }
 
 fn part(part: &Part) -> String {
@@ -80,6 +93,18 @@ fn part(part: &Part) -> String {
         Part::Hunted(hunted) => format!("{hunted:?}"),
         Part::Listed(listed) => format!("{listed:?}"),
         Part::Salvaged(salvaged) => format!("{salvaged:?}"),
+        Part::Fetcher(one) => fetcher(one),
+        Part::Fetched(fetched) => {
+            let answer = &fetched.answer;
+            format!(
+                "number {} taken {} mismatches {}, {}\n    {}",
+                answer.number,
+                answer.taken,
+                answer.mismatches,
+                chain(&fetched.chain),
+                fetcher(&fetched.fetcher)
+            )
+        }
         Part::Memory(bytes) => format!("memory {}", hex(bytes)),
         Part::Output(bytes) => format!("output {}", hex(bytes)),
         Part::Starts(table) => format!("starts {table:?}"),

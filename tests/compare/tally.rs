@@ -1,13 +1,14 @@
 //! How often each call gave each number, at which awaited bytes closing, byte and drop met an open run, which closing
-//! bytes were written where there is more than one sort, and which sorts of streams the tidier and salvage met; what a
-//! run of the comparison must have met.
+//! bytes were written where there is more than one sort, which sorts of streams the tidier and salvage met, and which sorts
+//! of fetches there were; what a run of the comparison must have met.
 
 use crate::call::{written, Call, Part};
 use crate::ends;
+use crate::jumps;
 use crate::model::numbers::*;
 use crate::shapes;
 
-const NAMES: [&str; 17] = [
+const NAMES: [&str; 19] = [
     "new",
     "reset",
     "start",
@@ -22,6 +23,8 @@ const NAMES: [&str; 17] = [
     "drop",
     "tidy",
     "salvage",
+    "fetcher_new",
+    "fetch",
     "start_in",
     "slice_in",
     "pick_up_in",
@@ -50,7 +53,7 @@ const AWAITED: [&str; 14] = [
 const CLOSED: [&str; 4] = ["at 2", "at 11: 00", "at 11: FF", "at 11: longer"];
 
 /// The numbers that each call can give: all of them must be met, and no other may be.
-const NUMBERS: [&[u8]; 17] = [
+const NUMBERS: [&[u8]; 19] = [
     &[0, 1],
     &[0, 1],
     &[0, 1, 2, 3, 17],
@@ -65,6 +68,8 @@ const NUMBERS: [&[u8]; 17] = [
     &[0, 1, 4, 17],
     &[0, 1, 5, 8, 9, 10, 11, 12, 15, 16],
     &[0, 1, 5, 15, 27],
+    &[0],
+    &[0, 1, 2, 4, 5, 6, 7, 8, 9, 10, 11, 12, 16, 17, 18, 19],
     &[0, 1, 2, 3, 17],
     &[0, 1, 4, 5, 6, 7, 8, 9, 10, 11, 12, 16, 17],
     &[0, 1, 3, 17],
@@ -95,25 +100,28 @@ const MOST: usize = NO_HEAD as usize;
 const PICK_UP: usize = 7;
 const TIDY: usize = 12;
 const SALVAGE: usize = 13;
+const FETCH: usize = 15;
 
 /// The row of a call, and that of the call made right after it: its in-place twin, the pick-up of what was saved, or
-/// the tidying of what was tidied, the salvage of what was salvaged.
+/// the tidying of what was tidied, the salvage of what was salvaged, the same fetch in two parts.
 pub fn rows(call: &Call) -> (usize, Option<usize>) {
     match call {
         Call::New { .. } => (0, None),
         Call::Reset { .. } => (1, None),
-        Call::Start { .. } => (2, Some(14)),
+        Call::Start { .. } => (2, Some(16)),
         Call::Byte { .. } => (3, None),
-        Call::Slice { .. } => (4, Some(15)),
+        Call::Slice { .. } => (4, Some(17)),
         Call::Closing { .. } => (5, None),
         Call::Save { .. } => (6, Some(PICK_UP)),
-        Call::PickUp { .. } => (PICK_UP, Some(16)),
+        Call::PickUp { .. } => (PICK_UP, Some(18)),
         Call::Hunt { .. } => (8, None),
         Call::Write { .. } => (9, None),
         Call::List { .. } => (10, None),
         Call::Drop { .. } => (11, None),
         Call::Tidy { .. } => (TIDY, Some(TIDY)),
         Call::Salvage { .. } => (SALVAGE, Some(SALVAGE)),
+        Call::FetcherNew { .. } => (14, None),
+        Call::Fetch { .. } => (FETCH, Some(FETCH)),
     }
 }
 
@@ -135,7 +143,7 @@ fn meet(sorts: &mut Sorts, met: Vec<(&'static str, bool)>) {
 
 #[derive(Default)]
 pub struct Tally {
-    numbers: [[u64; MOST + 1]; 17],
+    numbers: [[u64; MOST + 1]; 19],
     /// as in RUNS
     awaited: [[u64; 14]; 6],
     /// The numbers of byte, by awaited byte.
@@ -146,6 +154,8 @@ pub struct Tally {
     tidied: Sorts,
     /// The streams that salvage was given, by sort.
     salvaged: Sorts,
+    /// The fetches, by sort.
+    fetched: Sorts,
 }
 
 /// The row of CLOSED that these closing bytes belong to.
@@ -173,6 +183,9 @@ impl Tally {
         }
         if let Call::Salvage { kind, stream, room } = call {
             meet(&mut self.salvaged, ends::sorts(*kind, stream, room));
+        }
+        if let Call::Fetch { chain, memory, fetcher, eprom, count } = call {
+            meet(&mut self.fetched, jumps::sorts(chain, memory, fetcher, eprom, *count));
         }
         let (table, place) = match call {
             Call::Closing { chain, .. } => (0, &chain.place),
@@ -216,6 +229,10 @@ impl Tally {
         for (name, count) in &self.salvaged {
             println!("{name:<46}{count:>8}");
         }
+        println!("Fetches, by sort:");
+        for (name, count) in &self.fetched {
+            println!("{name:<50}{count:>8}");
+        }
     }
 
     /// What should have been met and was not, or the other way round.
@@ -238,6 +255,9 @@ impl Tally {
         }
         for (name, _) in self.salvaged.iter().filter(|(_, count)| *count == 0) {
             complaints.push(format!("salvage was never given a stream of the sort: {name}"));
+        }
+        for (name, _) in self.fetched.iter().filter(|(_, count)| *count == 0) {
+            complaints.push(format!("there was never a fetch of the sort: {name}"));
         }
         complaints
     }

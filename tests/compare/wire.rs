@@ -3,6 +3,7 @@
 
 use crate::call::{Call, Part, Room};
 use crate::model::chain::{Chain, Made, Place};
+use crate::model::eprom::{Fetched, Fetcher};
 use crate::model::hunt::Hunted;
 use crate::model::lister::Listed;
 use crate::model::machine::{Answer, Fed};
@@ -20,6 +21,8 @@ const ENDS: u8 = 8;
 const OFFSETS: u8 = 9;
 const HUNTED: u8 = 10;
 const SALVAGED: u8 = 11;
+const FETCHER: u8 = 12;
+const FETCHED: u8 = 13;
 
 fn put16(to: &mut Vec<u8>, value: u16) {
     to.extend(value.to_le_bytes());
@@ -57,6 +60,13 @@ fn put_chain(to: &mut Vec<u8>, chain: &Chain) {
     put16(to, place.next);
     put32(to, place.taken as usize);
     put32(to, place.mismatches as usize);
+}
+
+fn put_fetcher(to: &mut Vec<u8>, fetcher: &Fetcher) {
+    put32(to, fetcher.counter as usize);
+    to.push(fetcher.control);
+    to.extend(fetcher.address);
+    to.push(fetcher.nulled);
 }
 
 /// Puts one request, its length first.
@@ -126,6 +136,18 @@ pub fn put_request(to: &mut Vec<u8>, call: &Call) {
             put_bytes(to, stream);
             put_room(to, room);
         }
+        Call::FetcherNew { mode } => to.extend([14, *mode]),
+        Call::Fetch { chain, memory, fetcher, eprom, count } => {
+            put_state(to, 15, chain, memory);
+            put_fetcher(to, fetcher);
+            put32(to, eprom.length);
+            put32(to, eprom.laid.len());
+            for &(address, byte) in &eprom.laid {
+                put32(to, address as usize);
+                to.push(byte);
+            }
+            to.extend(count.to_le_bytes());
+        }
     }
     let length = (to.len() - front - 4) as u32;
     to[front..front + 4].copy_from_slice(&length.to_le_bytes());
@@ -175,6 +197,17 @@ fn put_part(to: &mut Vec<u8>, part: &Part) {
             to.extend([SALVAGED, salvaged.number, salvaged.kept, salvaged.announced, salvaged.end]);
             to.extend(salvaged.offset.to_le_bytes());
             to.extend(salvaged.length.to_le_bytes());
+        }
+        Part::Fetcher(fetcher) => {
+            to.push(FETCHER);
+            put_fetcher(to, fetcher);
+        }
+        Part::Fetched(fetched) => {
+            to.extend([FETCHED, fetched.answer.number]);
+            put32(to, fetched.answer.taken as usize);
+            put32(to, fetched.answer.mismatches as usize);
+            put_chain(to, &fetched.chain);
+            put_fetcher(to, &fetched.fetcher);
         }
         Part::Memory(bytes) => put_table(to, MEMORY, bytes, |&byte| [byte]),
         Part::Output(bytes) => put_table(to, OUTPUT, bytes, |&byte| [byte]),
@@ -256,6 +289,15 @@ impl<'a> Reader<'a> {
         })
     }
 
+    fn fetcher(&mut self) -> Option<Fetcher> {
+        Some(Fetcher {
+            counter: self.number(4)? as u32,
+            control: self.byte()?,
+            address: [self.byte()?, self.byte()?, self.byte()?],
+            nulled: self.byte()?,
+        })
+    }
+
     fn part(&mut self) -> Option<Part> {
         Some(match self.byte()? {
             MADE => {
@@ -289,6 +331,12 @@ impl<'a> Reader<'a> {
                 offset: self.number(8)?,
                 length: self.number(8)?,
             }),
+            FETCHER => Part::Fetcher(self.fetcher()?),
+            FETCHED => {
+                let number = self.byte()?;
+                let answer = Answer { number, taken: self.number(4)? as u32, mismatches: self.number(4)? as u32 };
+                Part::Fetched(Fetched { chain: self.chain()?, answer, fetcher: self.fetcher()? })
+            }
             MEMORY => Part::Memory(self.table(1)?.iter().map(|&entry| entry as u8).collect()),
             OUTPUT => Part::Output(self.table(1)?.iter().map(|&entry| entry as u8).collect()),
             STARTS => Part::Starts(self.table(2)?.iter().map(|&entry| entry as u16).collect()),

@@ -1,11 +1,11 @@
 """The model of document 01, and of the requests of document 02 that have landed, in Python, written from the papers and not from the
-crates' code or definitions.
+crates' code or definitions; docs/TESTS.md says where that holds in part only.
 
 It is short and slow on purpose: each function follows the paper's sentences in their order, which are quoted beside it. cases.py works
-out with it what the program `cases` must print, listing.py what the program `listing` must. Each of the fourteen calls answers its number
-first. Taken from the interface, not from the paper: the names of the state's fields, `running` and `check` as bytes of which any but 0 and
-1 is not well formed in a lent state, and that start takes any check but 0 for a check. Where the paper leaves a choice, the readings in
-docs/DECISIONS.md are followed.
+out with it what the program `cases` must print, listing.py what the program `listing` must. Each of the sixteen calls answers its number
+first, but for the new fetcher, which has none. Taken from the interface, not from the paper: the names of the state's fields, `running` and
+`check` as bytes of which any but 0 and 1 is not well formed in a lent state, and that start takes any check but 0 for a check. Where the
+paper leaves a choice, the readings in docs/DECISIONS.md are followed.
 """
 
 from copy import deepcopy
@@ -21,7 +21,7 @@ PREAMBLE = 0xB2
 POSTAMBLE = 0x4D
 
 # "the control bit B2 is bit 2"
-B2, B3, B4 = 1 << 2, 1 << 3, 1 << 4
+B0, B1, B2, B3, B4 = 1 << 0, 1 << 1, 1 << 2, 1 << 3, 1 << 4
 
 COUNTERS = 2**32
 
@@ -605,6 +605,101 @@ def salvage(kind, s, out):
         return refused(number)
     # "windows kept, windows announced"
     return 0, len(kept), s[5] ^ 0xFF, end, offset, length, out
+
+
+# ---- EPROM boards
+
+# "A fetcher's 17-bit counter"
+LAST_COUNT = 0x1FFFF
+
+
+@dataclass
+class Fetcher:
+    """ "Beside the saved place a stop keeps the counter, that device's control and address bytes (zero until taken) and whether its first null was
+    taken": 0 is not yet, all else is taken. """
+
+    counter: int = 0
+    control: int = 0
+    address: list = field(default_factory=lambda: [0, 0, 0])
+    nulled: int = 0
+
+
+def first_count(mode):
+    """ "starts at 00000 (1FFFF in mode 2)" """
+    return LAST_COUNT if mode == 2 else 0
+
+
+def fetcher_new(mode):
+    return Fetcher(first_count(mode))
+
+
+def stepped(mode, counter):
+    """ "steps up by one each byte (down in mode 2), wrapping past either end" """
+    if mode == 2:
+        return LAST_COUNT if counter == 0 else counter - 1
+    return 0 if counter == LAST_COUNT else counter + 1
+
+
+def take_fetched(c, mem, f, b):
+    """One byte that the fetcher has fetched, fed to the open run: its number, as `take` has it, or 19."""
+    p, mode = c.place, c.place.mode
+    f.counter = stepped(mode, f.counter)
+    jump = None
+    if p.device == 0:
+        # what is kept belongs to this run: "zero until taken"
+        if p.awaited == PREAMBLE_1:
+            f.control, f.address, f.nulled = 0, [0, 0, 0], 0
+        elif p.awaited == CONTROL:
+            f.control = b
+        elif ADDRESS_1 <= p.awaited <= ADDRESS_3:
+            f.address[p.awaited - ADDRESS_1] = b
+        elif p.awaited == NULL and f.nulled == 0:
+            f.nulled = 1
+            # "If the first device's control byte sets B1, the counter takes the external address after that section's first null byte"
+            if f.control & B1:
+                jump = int.from_bytes(bytes(f.address), "little")
+    if jump is not None and jump > LAST_COUNT:
+        # "19 for a jump above 1FFFF, at the null byte, which counts as taken and closes the run"
+        p.taken = (p.taken + 1) % COUNTERS
+        number = 19
+    else:
+        number = take(c, mem, b)
+        if jump is not None:
+            f.counter = jump
+    if number != GOES_ON:
+        # "When a run ends, B0 of that control byte decides: clear resets the counter for that run's mode, set keeps its next value."
+        if not f.control & B0:
+            f.counter = first_count(mode)
+        f.control, f.address, f.nulled = 0, [0, 0, 0], 0
+    return number
+
+
+def fetch(c, f, mem, eprom, n):
+    """Fetches n bytes and feeds them, or as many as the run takes. Answers number, bytes taken, mismatches, state, memory and fetcher."""
+    # "17 for a lent counter above 1FFFF", then 4
+    number = state_number(c, mem)
+    if number == 0 and f.counter > LAST_COUNT:
+        number = 17
+    if number == 0 and not c.place.running:
+        number = 4
+    if number != 0:
+        return number, 0, 0, c, mem, f
+    # "2, after 4, for any other mode"
+    if c.place.mode not in (1, 2, 5):
+        return 2, c.place.taken, c.place.mismatches, c, mem, f
+    c, mem, f = deepcopy(c), bytearray(mem), deepcopy(f)
+    number = GOES_ON
+    while n > 0 and number == GOES_ON:
+        # "18 when the counter is not below the EPROM's length: no byte is taken, the run stays open"
+        if f.counter < len(eprom):
+            number = take_fetched(c, mem, f, eprom[f.counter])
+        else:
+            number = 18
+        n -= 1
+    counts = c.place.taken, c.place.mismatches
+    if number not in (GOES_ON, 18):
+        c.place = Place()
+    return number, *counts, c, bytes(mem), f
 
 
 # ---- The listing program

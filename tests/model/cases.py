@@ -19,9 +19,13 @@ each), of two tables and of the arguments (two bytes each), high byte first. A l
     h   number p left length       hunt
     k   number kept announced end offset length        salvage: what is whole is kept
     l   number windows control address taken starts ends offset ..     list; entries that were not written are ee
+    e                              bytes laid into the EPROM, which is all ff at first, from the address on that stands for the memory's length
+    g, i   fetcher                 a fetcher that the caller makes up; a new one
+    x   number taken mismatches state fetcher      fetch; the output's length is that of the EPROM lent, and the arguments are how many bytes
 
 A state is count, kinds, registers; running, mode, check, device, awaited, windows left, control; start end next; taken, mismatches. Fields that a place gets
-later (LATER) stand behind these where one of them is not zero, and read as 0 where they are not there: they move no line that has none. Then come
+later (LATER) stand behind these where one of them is not zero, and read as 0 where they are not there: they move no line that has none. A fetcher
+is counter, control byte, address, nulled. Then come
 `>address:bytes` for each run of bytes written into the output, which held ee, and `@address:bytes` for each run of memory cells that the call changed.
 """
 
@@ -32,11 +36,14 @@ from pathlib import Path
 
 sys.dont_write_bytecode = True
 import at6000
-from at6000 import B2, B3, B4, PREAMBLE, SIZES, Chain, Place, saved_of
+from at6000 import B2, B3, B4, PREAMBLE, SIZES, Chain, Fetcher, Place, saved_of
 from streams import EMPTY, A, at_bit, bytes_of, section, stream, window
 
 CELLS = 65576  # the program's memory: enough for a chain that is refused for its total alone
 LENT = 0xEE
+EPROM = 131072  # what a counter of 17 bits reaches
+LONGER = 131200  # the program's EPROM: bytes past that
+LAST = 0x1FFFF
 
 
 def eight(values):
@@ -64,6 +71,10 @@ def shown(c):
     return "".join(" " + group.hex() for group in groups(c))
 
 
+def fetcher_shown(f):
+    return f" {f.counter:08x} {f.control:02x} {bytes(f.address).hex()} {f.nulled:02x}"
+
+
 def changes(mark, now, was):
     text, i = "", 0
     while i < len(now):
@@ -77,11 +88,13 @@ def changes(mark, now, was):
 
 
 class Script:
-    """The script so far, with the state and the memory that the model has reached. Each call's first argument is the number it must give."""
+    """The script so far, with the state, the memory, the EPROM and the fetcher that the model has reached. Each call's first argument is the number it must
+    give."""
 
     def __init__(self):
         self.stdin, self.stdout, self.calls, self.given, self.ends = bytearray(), [], 0, set(), set()
         self.c, self.mem = Chain(), bytes(CELLS)
+        self.f, self.eprom = Fetcher(), bytearray([0xFF] * LONGER)
 
     # ---- lines
 
@@ -89,8 +102,9 @@ class Script:
         head = bytes([ord(letter), a, b, c]) + mem.to_bytes(3, "big") + out.to_bytes(3, "big")
         self.stdin += head + b"".join(n.to_bytes(2, "big") for n in (starts, ends, len(args))) + bytes(args)
         self.stdout.append(letter + text)
-        if letter not in "#m=":
+        if letter not in "#m=eg":
             self.calls += 1
+        if letter not in "#m=egi":
             self.given.add((letter, int(text[1:3], 16)))
 
     def agree(self, number, got):
@@ -164,6 +178,44 @@ class Script:
         got, self.c = at6000.pick_up(self.c, mem, saved)
         self.agree(number, got)
         self.line("p", f" {got:02x}{shown(self.c)}", saved, mem=len(mem))
+
+    # ---- the EPROM
+
+    def burn(self, at, s):
+        """Bytes laid into the EPROM from an address on."""
+        self.eprom[at : at + len(s)] = s
+        self.line("e", args=s, mem=at)
+
+    def lay(self, mode, at, s):
+        """Bytes laid where a counter that is `at` comes by in this mode, one after another."""
+        s = bytes_of(s)
+        if mode == 2:
+            s, at = s[::-1], at + 1 - len(s)
+        low, high = s[: max(0, -at)], s[max(0, -at) :]
+        at = max(0, at)
+        over = high[EPROM - at :]
+        for address, part in ((EPROM - len(low), low), (at, high[: EPROM - at]), (0, over)):
+            if part:
+                self.burn(address, part)
+
+    def fetcher(self, counter, control=0x00, address="000000", nulled=0):
+        self.f = Fetcher(counter, control, list(bytes_of(address)), nulled)
+        self.line("g", fetcher_shown(self.f), bytes.fromhex(fetcher_shown(self.f)))
+
+    def fetcher_new(self, counter, mode):
+        self.f = at6000.fetcher_new(mode)
+        self.agree(Fetcher(counter), self.f)
+        self.line("i", fetcher_shown(self.f), a=mode)
+
+    def fetch(self, number, n, taken=None, counter=None, mismatches=None, lent=None, size=EPROM):
+        """`taken`, `counter` and `mismatches` are what they are afterwards, where they are said; `size` is the length of the EPROM lent."""
+        mem = self.lent(lent)
+        got = at6000.fetch(self.c, self.f, mem, self.eprom[:size], n)
+        self.c, after, self.f = got[3:]
+        for want, is_ in zip((number, taken, mismatches, counter), (*got[:3], self.f.counter)):
+            self.agree(is_ if want is None else want, is_)
+        text = f" {got[0]:02x} {got[1]:08x} {got[2]:08x}{shown(self.c)}{fetcher_shown(self.f)}{self.stored(after)}"
+        self.line("x", text, n.to_bytes(4, "big"), mem=len(mem), out=size)
 
     # ---- calls with an output
 
@@ -1874,16 +1926,430 @@ def cases_drop(s):
             s.drop(17)
 
 
+def after(mode, counter, k):
+    """The counter k bytes later, where nothing jumps."""
+    return (counter - k if mode == 2 else counter + k) % EPROM
+
+
+HOME = {1: 0x00000, 2: 0x1FFFF, 5: 0x00000}
+
+
+def boot(s, mode, sent, at=None, check=0, kinds=(0,)):
+    """A new chain, the stream in the EPROM where the counter starts, or at another counter that is lent, and an open run."""
+    at = HOME[mode] if at is None else at
+    s.new(0, len(kinds), list(kinds))
+    s.fill(0x31, 0x05, s.c.base(len(kinds)))
+    s.lay(mode, at, sent)
+    s.fetcher(at)
+    s.start(0, mode, check)
+    return at
+
+
+def cases_fetch(s):
+    s.say("fetcher: 'A fetcher's 17-bit counter starts at 00000 (1FFFF in mode 2)'; a mode that there is not has no start of its own")
+    for mode in (*range(9), 128, 130, 254, 255):
+        s.fetcher_new(0x1FFFF if mode == 2 else 0, mode)
+    for mode in (1, 2, 5):
+        s.say(f"fetch, 0, mode {mode}: stream A, whole; n is just enough, one more, many more; 'clear resets the counter for that run's mode'")
+        for n in (15, 16, 4294967295):
+            boot(s, mode, A)
+            s.fetcher_new(HOME[mode], mode)
+            s.fetch(0, n, 15, HOME[mode])
+            assert s.mem[9:12] == b"\x11\x22\x33" and s.f == Fetcher(HOME[mode])
+        s.say(f"fetch, 16, mode {mode}: 'steps up by one each byte (down in mode 2)', byte by byte; what a stop keeps, 'zero until taken'")
+        sent = stream(section([window(9, 10, "1122", null=0xA5), window(20, 20, "33", null=0x5A)], 0xA1, "0A0B0C"))
+        at = boot(s, mode, sent, 0x00100)
+        for k, b in enumerate(sent[:-1]):
+            s.fetch(16, 1, k + 1, after(mode, at, k + 1))
+            assert s.f.control == (0xA1 if k >= 1 else 0) and s.f.address == [b if k >= 2 + i else 0 for i, b in enumerate((10, 11, 12))]
+            assert s.f.nulled == (k >= 6)
+        s.say(f"fetch, 0, mode {mode}: 'set keeps its next value', the one after the postamble; nothing else is kept of a run that has ended")
+        s.fetch(0, 1, 20, after(mode, at, 20))
+        assert s.f == Fetcher(after(mode, at, 20))
+        s.say(f"fetch, mode {mode}: the next run starts where the last one stopped; two in one EPROM, each with B0 set, then one without")
+        s.lay(mode, after(mode, at, 20), A[:1] + b"\x01" + A[2:] + A)
+        s.start(0, mode)
+        s.fetch(0, 99, 15, after(mode, at, 35))
+        s.start(0, mode)
+        s.fetch(0, 99, 15, HOME[mode])
+        s.say(f"fetch, mode {mode}: 'wrapping past either end': at every byte of a stream, and just behind its last")
+        for k in range(16):
+            sent = A[:1] + b"\x01" + A[2:]
+            at = boot(s, mode, sent, after(mode, 0x1FFFF if mode == 2 else 0, -k))
+            s.fetch(0, 15, 15, after(mode, at, 15))
+            assert s.f.counter == (0x1FFFF - (15 - k) if mode == 2 else 15 - k)
+            assert s.mem[9:12] == b"\x11\x22\x33"
+        s.say(f"fetch, mode {mode}: and nowhere else: 'A fetcher's 17-bit counter' goes past 0FFFF, 07FFF and 000FF to 10000, 08000 and 00100, or down")
+        for at in (0x10000, 0x08000, 0x00100):
+            boot(s, mode, sent, at + 7 if mode == 2 else at - 7)
+            s.fetch(0, 15, 15, at - 8 if mode == 2 else at + 8)
+        s.say(f"fetch, mode {mode}: 'A fetched run equals the machine fed with its bytes', in parts of every length, with a check too, mismatches counted")
+        sent = stream(section([window(9, 11, "112233"), window(10, 10, "77")], 0x20), section([window(0, 51, range(52))], 0x41))
+        for check in (0, 1):
+            boot(s, mode, sent, check=check, kinds=(0, 0))
+            s.feed(0, sent, 84)
+            left, last = (s.c, s.mem), s.stdout[-1].split("@")[0]
+            for part in (1, 2, 5, 7, 13, 83, 84):
+                boot(s, mode, sent, check=check, kinds=(0, 0))
+                for k in range(part, 84, part):
+                    s.fetch(16, part, k, after(mode, HOME[mode], k))
+                s.fetch(0, part, 84, HOME[mode])
+                assert (s.c, s.mem) == left and s.stdout[-1][2:30] == last[2:30]
+    s.say("fetch, 16: n is 0: nothing moves, and nothing is kept or put away, whatever is lent")
+    for mode in (1, 2, 5):
+        at = boot(s, mode, A)
+        s.fetcher(0x12345, 0xFF, "AABBCC", 0x07)
+        for size in (EPROM, 1, 0):
+            s.fetch(16, 0, 0, 0x12345, size=size)
+        s.feed(16, A[:9], 9)
+        s.fetch(16, 0, 9, 0x12345)
+        assert s.f == Fetcher(0x12345, 0xFF, [0xAA, 0xBB, 0xCC], 7)
+    s.say("fetch, 18: 'when the counter is not below the EPROM's length: no byte is taken, the run stays open'; an EPROM that is empty, or short by one")
+    for mode in (1, 2, 5):
+        boot(s, mode, A)
+        s.fetch(18, 1, 0, HOME[mode], size=0)
+        s.fetch(18, 15, 0, HOME[mode], size=HOME[mode])
+        s.fetch(16, 1, 1, size=HOME[mode] + 1)
+        s.fetch(0, 14, 15, HOME[mode])
+    s.say("fetch, 18, in the middle of a run: it goes on with a longer EPROM; asked again it is 18 again; with n no more than there is, 16")
+    for k in range(1, 15):
+        at = boot(s, 1, A)
+        s.fetch(16, k, k, k, size=k)
+        s.fetch(18, 1, k, k, size=k)
+        s.fetch(18, 99, k, k, size=k)
+        s.fetch(18, 99, k, k, size=k - 1)
+        s.fetch(0, 99, 15, 0, size=15)
+        boot(s, 5, A)
+        s.fetch(18, 99, k, k, size=k)
+        s.feed(0, A[k:], 15)
+        assert s.f.counter == k
+    s.say("fetch, 18, mode 2: the counter comes below a short EPROM's end only by a lent value or a jump; past 00000 it wraps out of it")
+    boot(s, 2, A[:5], 4)
+    s.fetch(18, 15, 5, 0x1FFFF, size=100)
+    s.fetch(18, 15, 5, 0x1FFFF, size=EPROM - 1)
+    s.lay(2, 0x1FFFF, A[5:])
+    s.fetch(0, 15, 15, 0x1FFFF)
+    s.say("fetch: an EPROM longer than 131,072 bytes: 'wrapping past either end' at 1FFFF all the same, the rest is never read")
+    s.burn(EPROM, bytes(LONGER - EPROM))
+    for mode, at in ((1, 0x1FFFA), (5, 0x1FFFF), (2, 0x00003)):
+        boot(s, mode, A, at)
+        s.fetch(0, 99, 15, HOME[mode], size=LONGER)
+        assert s.mem[9:12] == b"\x11\x22\x33"
+    s.say("fetch, 17 for a counter that could be read there: 'for a lent counter above 1FFFF'")
+    s.start(0, 1)
+    for counter in (0x20000, 0x2007F, 0xFFFFFFFF):
+        s.fetcher(counter)
+        s.fetch(17, 1, 0, counter, size=LONGER)
+        s.fetch(17, 0, 0, counter, size=LONGER)
+
+
+def cases_fetch_refused(s):
+    junk = (0x12345, 0xFF, "AABBCC", 0x07)
+    s.say("fetch, 4: no run open: new, accepted, closed; the fetcher and a closed place's other fields are handed back as lent; 0 and 0")
+    s.new(0, 1, [0])
+    s.fetcher(*junk)
+    s.fetch(4, 1, 0, 0x12345, 0)
+    s.state(Chain(1, [0] * 8, [0x5A] + [0] * 7, Place(0, 9, 8, 7, 99, 5, 4, 300, 200, 100, 77, 66)))
+    for n in (0, 1, 99):
+        s.fetch(4, n, 0, 0x12345, 0)
+    s.fetch(4, 1, 0, 0x12345, 0, size=0)
+    s.say("fetch, 2: 'after 4, for any other mode', with the run's counts so far; n 0 too, and an empty EPROM; the run stays open")
+    for mode in (3, 4, 6):
+        for check in (0, 1):
+            s.new(0, 1, [0])
+            s.fill(0x31, 0x05, 52)
+            s.start(0, mode, check)
+            s.fetcher(*junk)
+            s.fetch(2, 1, 0, 0x12345, 0)
+            lead = A[:1] if mode == 6 else b""
+            s.feed(16, lead + A[:13], 13 + len(lead), 2 * check)
+            for n in (0, 1, 99):
+                s.fetch(2, n, 13 + len(lead), 0x12345, 2 * check)
+            s.fetch(2, 1, 13 + len(lead), 0x12345, 2 * check, size=0)
+            s.feed(0, A[13:], 15 + len(lead), 3 * check)
+    s.say("fetch, 17: 'for a lent counter above 1FFFF', after 1, before 4 and before 2; the last counter is taken, and anything else of a fetcher")
+    for mode in (1, 2, 5, 3, 4, 6):
+        s.new(0, 1, [0])
+        s.fetcher(0x20000)
+        s.fetch(17, 1, 0, 0x20000, 0)
+        s.start(0, mode)
+        s.fetch(17, 1, 0, 0x20000, 0)
+        s.fetch(1, 1, 0, 0x20000, 0, lent=51)
+        s.fetcher(0x1FFFF, 0xFF, "FFFFFF", 0xFF)
+        s.fetch(16 if mode in HOME else 2, 0, 0, 0x1FFFF, 0)
+    s.say("fetch, 17 of the state: unused kinds, unused registers, an open place that is not well formed; before 4, and 1 before it")
+    s.fetcher(*junk)
+    places = [Place(), Place(1, 1), Place(1, 3), Place(1, 0), Place(1, 7), Place(1, 1, 2), Place(1, 1, 0, 1), Place(1, 1, awaited=14)]
+    places += [Place(1, 1, control=1), Place(2, 1)]
+    for place in places[3:]:
+        s.state(Chain(1, [0] * 8, [0] * 8, place))
+        s.fetch(17, 1, 0, 0x12345, 0)
+        s.fetch(1, 1, 0, 0x12345, 0, lent=53)
+    for place in places[:3]:
+        for c in (Chain(1, [0, 2] + [0] * 6), Chain(2, [0] * 8, [0, 0, 1] + [0] * 5)):
+            s.state(replace(c, place=place))
+            s.fetch(17, 1, 0, 0x12345, 0)
+            s.fetcher(0x20000)
+            s.fetch(17, 1, 0, 0x20000, 0)
+            s.fetcher(*junk)
+    s.say("fetch, 1: before all else: memory of another length, count, kind, total; a bad counter, no run and another mode beside it")
+    bad = [(Chain(0), 0), (Chain(9), 416), (Chain(1, eight([4])), 52), (Chain(1), 51), (Chain(1), 0), (Chain(5, eight([10, 10, 10, 10, 0])), 65576)]
+    for place in places[:3]:
+        for c, length in bad:
+            s.state(replace(c, place=place))
+            s.fetch(1, 1, 0, 0x12345, 0, lent=length)
+            s.fetcher(0xFFFFFFFF)
+            s.fetch(1, 1, 0, 0xFFFFFFFF, 0, lent=length)
+            s.fetcher(*junk)
+    one = [window(9, 9, "11")]
+    # a stream, its number, the bytes taken; the first device's control byte is the second of them
+    refused = [
+        (stream(section(one, 0x00))[:-1] + b"\x00", 8, 13),
+        (stream(section([], 0x04), section([], 0x00)), 9, 7),
+        (stream(section([], 0x00), section([], 0x00), section([], 0x00)), 10, 13),
+        ("B2 00 000000 FE 00 0034", 11, 9),
+        ("B2 00 000000 FE 00 000B 000A", 12, 11),
+        ("B2 00 000000 FF B2 00 000000 FE 00 0009 0034", 12, 17),
+    ]
+    for mode in (1, 2, 5):
+        s.say(f"fetch, 5 to 12, mode {mode}: a refused byte ends the run too, 'B0 of that control byte decides'; it counts as taken and is behind the counter")
+        for sent, number, taken in refused:
+            for b0 in (0, 1):
+                sent = bytes_of(sent)
+                sent = sent[:1] + bytes([sent[1] & 0xFE | b0]) + sent[2:]
+                at = boot(s, mode, sent + b"\x77", 0x10000, kinds=(0, 0))
+                s.fetch(number, 99, taken, after(mode, at, taken) if b0 else HOME[mode])
+                assert s.f == Fetcher(after(mode, at, taken) if b0 else HOME[mode])
+        s.say(f"fetch, 7, mode {mode}, for the control byte of a check: it counts as taken, so its own B0 decides, though it is not loaded")
+        for control in (0x08, 0x09, 0xFE, 0xFF):
+            at = boot(s, mode, bytes([0xB2, control]), 0x10000, check=1)
+            s.fetch(7, 99, 2, after(mode, at, 2) if control & 1 else HOME[mode])
+            assert s.c.registers[0] == 0 and s.f == Fetcher(s.f.counter)
+        s.say(f"fetch, 7, mode {mode}, for the control byte of the second device: the first one's B0 decides")
+        for first, second in ((0x00, 0x09), (0x01, 0x08)):
+            at = boot(s, mode, stream(section([], first), section([], second)), 0x10000, check=1, kinds=(0, 0))
+            s.fetch(7, 99, 8, after(mode, at, 8) if first & 1 else HOME[mode])
+        s.say(f"fetch, 5, 6 and 7, mode {mode}, at the first preamble: the run ends before its control byte, B0 is clear, whatever was lent or is stored")
+        firsts = [(0x00, 0, "4D", 5), (0x00, 1, "00", 5), (0x11, 0, "B2", 6), (0x11, 1, "B2", 6), (0x09, 1, "B2", 7), (0x11, 0, "B3", 5)]
+        for register, check, sent, number in firsts:
+            s.new(0, 1, [0])
+            load(s, register)
+            s.lay(mode, 0x10000, sent)
+            s.fetcher(0x10000, 0xFF, "AABBCC", 0x07)
+            s.start(0, mode, check)
+            s.fetch(number, 99, 1, HOME[mode])
+            assert s.f == Fetcher(HOME[mode])
+        s.say(f"fetch, 6 and 7, mode {mode}, at the second device's preamble: the first device's B0 decides")
+        for register, check, number in ((0x10, 0, 6), (0x08, 1, 7)):
+            for b0 in (0, 1):
+                s.new(0, 2, [0, 0])
+                load(s, 0x00, register)
+                s.lay(mode, 0x10000, stream(section([], b0), section([], 0x00)))
+                s.fetcher(0x10000)
+                s.start(0, mode, check)
+                s.fetch(number, 99, 7, after(mode, 0x10000, 7) if b0 else HOME[mode])
+
+
+def jumping(mode, at, to, head, rest, s):
+    """The stream up to its first null byte at one counter, the rest of it at another."""
+    s.lay(mode, at, head)
+    s.lay(mode, to, rest)
+
+
+def cases_jump(s):
+    body = window(9, 10, "1122", null=0xA5)[1:] + window(20, 20, "33", null=0x5A) + b"\x4d"
+
+    def head(control, to, count=0xFD):
+        return bytes([0xB2, control, *to.to_bytes(3, "little"), count, 0xA5])
+
+    for mode in (1, 2, 5):
+        home = HOME[mode]
+        s.say(f"jump, mode {mode}: 'If the first device's control byte sets B1, the counter takes the external address after that section's first null byte'")
+        for control in (0x02, 0x03, 0xE2, 0xE3, 0xB2):
+            boot(s, mode, "")
+            jumping(mode, home, 0x08765, head(control, 0x08765), body, s)
+            s.fetch(16, 6, 6, after(mode, home, 6))
+            s.fetch(16, 1, 7, 0x08765)
+            s.fetch(16, 1, 8, after(mode, 0x08765, 1))
+            assert s.f == Fetcher(s.f.counter, control, [0x65, 0x87, 0x00], 1)
+            s.fetch(0, 99, 20, after(mode, 0x08765, 13) if control & 1 else home)
+            assert (s.mem[9:11], s.mem[20], s.f) == (b"\x11\x22", 0x33, Fetcher(s.f.counter))
+        s.say(f"jump, mode {mode}: the last counter and the first are jumped to, and wrapped past behind it; 'low byte first'; to where it would be anyway")
+        for to in (0x1FFFF, 0x00000, 0x1FFFE, 0x00001, 0x10000, 0x00100, 0x00080, after(mode, 0x00200, 7)):
+            boot(s, mode, "", 0x00200)
+            jumping(mode, 0x00200, to, head(0x03, to), body, s)
+            s.fetch(0, 99, 20, after(mode, to, 13))
+        s.say(f"jump, mode {mode}, 19: 'for a jump above 1FFFF, at the null byte, which counts as taken and closes the run'; its B0 decides as at any end")
+        for to in (0x020000, 0x020001, 0x030000, 0x100000, 0x01FFFF + 0x800000, 0xFFFFFF):
+            for control in (0x02, 0x03, 0x1A, 0x1B):
+                at = boot(s, mode, head(control, to), 0x10000, check=0)
+                s.fetch(16, 6, 6, after(mode, at, 6))
+                s.fetch(19, 1, 7, after(mode, at, 7) if control & 1 else home)
+                assert s.f == Fetcher(s.f.counter) and s.c.registers[0] == control and not s.c.place.running
+                s.fetch(4, 1)
+        s.say(f"jump, mode {mode}: 'with no windows there is no jump', and no 19 either, nor from the next device's null byte")
+        for to in (0x08765, 0x020000, 0xFFFFFF):
+            for control in (0x02, 0x03):
+                sent = head(control, to, 0xFF)[:-1]
+                at = boot(s, mode, sent + b"\x4d", 0x10000, kinds=(0, 0))
+                s.fetch(0, 99, 7, after(mode, at, 7) if control & 1 else home)
+                at = boot(s, mode, sent + b"\xb2" + section([window(9, 9, "11")], 0x02, "123401") + b"\x4d", 0x10000, kinds=(0, 0))
+                s.fetch(0, 99, 19, after(mode, at, 19) if control & 1 else home)
+        s.say(f"jump, mode {mode}: none where B1 is clear, whatever the address and the other bits")
+        for control in (0x00, 0x01, 0xFD, 0x14):
+            at = boot(s, mode, stream(section([window(9, 9, "11")], control, "FFFFFF")), 0x10000)
+            s.fetch(0, 99, 13, after(mode, at, 13) if control & 1 else home)
+        s.say(f"jump, mode {mode}: the second device's B1, B0 and address are nothing to the counter, the first one's last for the run; one jump at most")
+        for first, second in ((0x00, 0x03), (0x01, 0x02), (0x02, 0x03), (0x03, 0x02)):
+            boot(s, mode, "", 0x00300, kinds=(0, 0))
+            sent = head(first, 0x0A000, 0xFE), window(9, 9, "11")[1:] + b"\xb2" + section([window(9, 9, "22")], second, "00FFFF") + b"\x4d"
+            to = 0x0A000 if first & 2 else after(mode, 0x00300, 7)
+            jumping(mode, 0x00300, to, *sent, s)
+            s.fetch(16, 7, 7, to)
+            s.fetch(0, 99, 25, after(mode, to, 18) if first & 1 else home)
+            assert (s.mem[9], s.mem[61]) == (0x11, 0x22)
+        s.say(f"jump, mode {mode}: past the EPROM's end: 18 at the next byte, and on with a longer one; a jump to its last byte takes that one")
+        for size in (0x18000, 0x18001):
+            boot(s, mode, "", 0x00200)
+            jumping(mode, 0x00200, 0x18000, head(0x03, 0x18000), body, s)
+            s.fetch(18 if size == 0x18000 else 16, 8, 7 if size == 0x18000 else 8, size=size)
+            s.fetch(0, 99, 20, after(mode, 0x18000, 13))
+    s.say("jump, 19: bytes taken 'modulo 2^32', mismatches as they were; no cell and no register changes; a check as well as a write")
+    for check in (0, 1):
+        s.state(Chain(1, [0] * 8, [0x03] + [0] * 7, Place(1, 1, check, 0, 7, 2, 0x03, 0, 0, 0, 0xFFFFFFFF, 5 * check)))
+        s.fetcher(0x1FFFF, 0x03, "000002", 0)
+        s.fetch(19, 1, 0, 0, 5 * check)
+    s.say("jump: what is kept decides, and it is of fetched bytes alone: a control byte fed directly makes no jump, a null byte fed directly is not the first")
+    whole = head(0x02, 0x08765) + body
+    for fed in range(8):
+        boot(s, 1, whole)
+        s.lay(1, 0x08765, body)
+        s.feed(16, whole[:fed], fed)
+        s.fetcher(fed)
+        if fed < 7:
+            s.fetch(16, 7 - fed, 7, 0x08765 if fed < 2 else 7)
+        s.fetch(16, 3, 10, 0x08768 if fed < 2 else 10)
+        assert s.f.nulled == (fed < 7)
+        s.fetch(0, 99, 20, 0)
+    s.say("jump: of an address fed directly in part, what was fetched is kept, and the rest is zero")
+    for i, to in enumerate((0x08700, 0x00065, 0x08765)):
+        boot(s, 1, whole)
+        s.lay(1, to, body)
+        s.fetch(16, 2 + i, 2 + i, 2 + i)
+        s.byte(16, whole[2 + i], 3 + i)
+        s.fetcher(3 + i, s.f.control, s.f.address, s.f.nulled)
+        s.fetch(16, 4 - i, 7, to)
+        s.fetch(0, 99, 20, 0)
+    s.say("jump: the first null byte fed directly, the second window's fetched with a control byte that was kept: that one is the first fetched, and jumps")
+    boot(s, 1, "")
+    jumping(1, 0, 0x08765, head(0x03, 0x08765), body[:6] + b"\x5a" + b"\x00" * 9, s)
+    s.fetch(16, 6, 6, 6)
+    s.feed(16, b"\xa5" + body[:6], 13)
+    s.burn(6, b"\x5a")
+    s.lay(1, 0x08765, body[7:])
+    s.fetch(16, 1, 14, 0x08765)
+    s.fetch(0, 99, 20, 0x0876B)
+    s.say("jump: 'whether its first null was taken': a lent value above 1 is taken, and stays as it is; 0 becomes 1, with B1 clear too")
+    for nulled in (0, 1, 2, 0x80, 0xFF):
+        for control in (0x00, 0x02):
+            s.new(0, 1, [0])
+            s.start(0, 1)
+            s.feed(16, "B2 02 000000 FD", 6)
+            s.lay(1, 0x100, b"\xa5" + body)
+            s.lay(1, 0x200, body)
+            s.fetcher(0x100, control, "000200", nulled)
+            s.fetch(16, 1, 7, 0x200 if control and not nulled else 0x101)
+            assert s.f.nulled == (nulled or 1) and s.f.control == control
+            s.fetch(16, 7, 14)
+            assert s.f.nulled == (nulled or 1)
+            s.fetch(0, 99, 20, 0)
+    s.say("jump: none at a null byte of the second device, where a picked-up run stands there with nothing taken yet")
+    for nulled in (0, 1):
+        s.state(Chain(2, [0] * 8, [0x02, 0x00] + [0] * 6, Place(1, 1, 0, 1, 7, 1, 0x00)))
+        s.fetcher(0x100, 0x03, "000200", nulled)
+        s.lay(1, 0x100, window(9, 9, "11") + b"\x4d")
+        s.fetch(16, 1, 1, 0x101)
+        assert s.f == Fetcher(0x101, 0x03, [0, 2, 0], nulled)
+        s.fetch(0, 99, 7, 0x107)
+    s.say("fetch: at each awaited byte of the second device nothing is kept; 'that device' is the first")
+    sent = stream(section([], 0x21, "010203"), section([window(9, 9, "11")], 0xC2, "AABBCC"))
+    boot(s, 1, sent, kinds=(0, 0))
+    for k in range(1, len(sent)):
+        s.fetch(16, 1, k, k)
+        assert k < 5 or s.f == Fetcher(k, 0x21, [1, 2, 3], 0)
+    s.fetch(0, 1, 19, 19)
+
+
+def cases_board(s):
+    head = bytes_of("B2 03 004500 FD A5")
+    body = window(9, 10, "1122")[1:] + window(20, 20, "33", null=0x5A) + b"\x4d"
+    count = len(head) + len(body)
+    for mode in (1, 2, 5):
+        for check in (0, 1):
+            first = 0x00200 if mode == 1 else HOME[mode]
+
+            def begin():
+                s.new(0, 1, [0])
+                s.fill(0x31, 0x05, 52)
+                load(s, 0x40)
+                s.start(0, mode, check)
+                s.fetcher(first)
+
+            s.say(f"a {'check' if check else 'write'} in mode {mode} that jumps after its seventh byte, unbroken")
+            jumping(mode, first, 0x04500, head, body, s)
+            begin()
+            s.fetch(0, 99, count, after(mode, 0x04500, len(body)), 3 * check)
+            unbroken = s.c, s.mem, s.f
+            s.say("stopped at every byte, also after the jump: 'bytes fed directly, even those that end a run' leave the counter; started afresh from the")
+            s.say("'counter that the stopped run began with': as unbroken; what was kept of the stopped run is put away by the first preamble")
+            for k in range(count):
+                begin()
+                s.fetch(16, k, k)
+                kept, before = s.f, (s.mem, s.c.registers)
+                s.feed(ending(s), s.closing(0))
+                assert s.f == kept and (s.mem, s.c.registers) == before
+                s.start(0, mode, check)
+                s.fetcher(first, kept.control, kept.address, kept.nulled)
+                s.fetch(0, 99, count, after(mode, 0x04500, len(body)), 3 * check)
+                assert (s.c, s.mem, s.f) == unbroken
+            s.say("stopped at every byte: place and fetcher kept, the run dropped, both picked up, and fetched on: as unbroken")
+            for k in range(count):
+                begin()
+                s.fetch(16, k, k)
+                place, kept = s.save(0), s.f
+                s.drop(0)
+                s.fetcher(0x1ABCD, 0xFF, "FFFFFF", 1)
+                s.pick_up(0, place)
+                s.fetcher(kept.counter, kept.control, kept.address, kept.nulled)
+                s.fetch(0, 99, count, after(mode, 0x04500, len(body)), 3 * check)
+                assert (s.c, s.mem, s.f) == unbroken
+    s.say("the counter of the stopped run instead of the first one's is another run: after the jump it fetches from the middle of the stream, and no preamble")
+    begin()
+    s.fetch(16, 9, 9)
+    s.feed(12, s.closing(0))
+    s.start(0, 5)
+    s.fetch(5, 99, 1, 0)
+    s.say("'a reset leave the counter': the fetcher is no part of the state; the run that a reset ended is booted again from the first counter")
+    begin()
+    s.fetch(16, 9, 9)
+    kept = s.f
+    s.reset(0)
+    assert s.f == kept
+    s.start(0, 5)
+    s.fetcher(0)
+    s.fetch(0, 99, count)
+
+
 ALL = [cases_new, cases_reset, cases_start, cases_bytes, cases_preamble, cases_control, cases_windows, cases_check_byte, cases_check, cases_guide]
 ALL += [cases_chains, cases_closing, cases_closing_11, cases_closing_2, cases_saved, cases_picked_up, cases_hunt, cases_write, cases_list]
-ALL += [cases_stops, cases_drop, cases_tidy, cases_salvage]
+ALL += [cases_stops, cases_drop, cases_tidy, cases_salvage, cases_fetch, cases_fetch_refused, cases_jump, cases_board]
 
 
 # Every number that each call can give, by the paper's table; each is given at least once.
 FED = {0, 1, 4, 5, 6, 7, 8, 9, 10, 11, 12, 16, 17}
 CAN_GIVE = {"n": {0, 1}, "r": {0, 1}, "s": {0, 1, 2, 3, 17}, "b": FED, "f": FED, "c": {0, 1, 4, 15, 17}, "v": {0, 1, 4, 15, 17}, "p": {0, 1, 3, 17}}
 CAN_GIVE |= {"d": {0, 1, 4, 17}, "h": {0, 5, 15}, "w": {0, 1, 2, 11, 12, 13, 14, 15}, "l": {0, 1, 2, 5, 8, 9, 10, 11, 12, 15, 16}}
-CAN_GIVE |= {"t": {0, 1, 5, 8, 9, 10, 11, 12, 15, 16}, "k": {0, 1, 5, 15, 27}}
+CAN_GIVE |= {"t": {0, 1, 5, 8, 9, 10, 11, 12, 15, 16}, "k": {0, 1, 5, 15, 27}, "x": FED | {2, 18, 19}}
 ENDS = {0, 8, 9, 10, 11, 12, 16}
 
 

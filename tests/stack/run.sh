@@ -9,7 +9,7 @@ trap 'rm -rf "$room"' EXIT
 sh "$x86" cc "$room/stack" "$here/stack.c" "$1"
 sh "$x86" run "$room/stack" >"$room/table"
 cat "$room/table"
-awk '$2 > 2048 { print "more than 2048: " $0; bad = 1 } END { exit bad || NR != 17 }' "$room/table"
+awk '$2 > 2048 { print "more than 2048: " $0; bad = 1 } END { exit bad || NR != 19 }' "$room/table"
 
 sh "$x86" cc "$room/sleep" "$here/sleep.c" "$1"
 sh "$x86" run "$room/sleep"

@@ -8,7 +8,7 @@
 #include <stdlib.h>
 #include <string.h>
 
-enum { ROOM = 4096, BIG = 16381, HEAD = 11, LENGTH = HEAD + BIG + 1, ANY = -1 };
+enum { ROOM = 4096, BIG = 16381, HEAD = 11, LENGTH = HEAD + BIG + 1, EPROM = 131072, ANY = -1 };
 
 /* The empty call; a large struct is returned through its address, which comes in rdi and must leave in rax. */
 void nothing(void);
@@ -24,6 +24,11 @@ static const uint8_t *s = stream, address[3];
 static size_t mem_len = BIG, s_len = LENGTH, out_len = LENGTH, tables = 1;
 static uint16_t starts[1] = {0}, ends[1] = {BIG - 1}, listed[2];
 static uint32_t offset;
+
+/* The same stream in an EPROM, what fetches it, and how many bytes. */
+static uint8_t eprom[EPROM];
+static at6000_fetcher f;
+static size_t eprom_len = EPROM, wanted_bytes;
 
 /* A stream of as many windows as there can be, descending: they overlap, or stand apart, as the step says. */
 enum { MOST = 255, EACH = 40, MANY = 6 + MOST * (5 + EACH) + 1 };
@@ -62,6 +67,8 @@ CALL(write, .number, (kind, mode, 0, address, starts, tables, ends, tables, mem,
 CALL(list, .number, (kind, mode, s, s_len, listed, 1, listed + 1, 1, &offset, tables))
 CALL(tidy, .number, (kind, s, s_len, out, out_len))
 CALL(salvage, .number, (kind, s, s_len, out, out_len))
+CALL(fetcher_new, .nulled, (mode))
+CALL(fetch, .answer.number, (c, f, mem, mem_len, eprom, eprom_len, wanted_bytes))
 #define ON_A_CHAIN \
     &a_start, &a_start_in, &a_slice, &a_slice_in, &a_byte, &a_closing, &a_save, &a_drop, &a_pick_up, &a_pick_up_in
 
@@ -139,14 +146,77 @@ static void stop(size_t n)
     mem_len++;
 }
 
+/* Where a byte of the stream lies that begins at this counter; it wraps past either end. */
+static uint32_t lies(uint32_t first, size_t i) { return (uint32_t)(mode == 2 ? first - i : first + i) & (EPROM - 1); }
+
+/* The stream fetched from this counter on and stopped after n bytes: the rest of it, one byte more, none, one past the EPROM; and what is
+ * refused. With bit 1 of the control byte the counter takes the address where it would be anyway, or one that is too high. */
+static void boot(uint32_t first, size_t n, int jump, int astray)
+{
+    static const at6000_chain fresh = {.count = 1, .kinds = {10}};
+    const int open = n < LENGTH;
+    const uint32_t to = astray ? EPROM : lies(first, 7);
+
+    for (size_t i = 0; i < LENGTH; i++)
+        eprom[lies(first, i)] = stream[i];
+    if (jump) {
+        const uint8_t section[] = {0x02, (uint8_t)to, (uint8_t)(to >> 8), (uint8_t)(to >> 16)};
+        for (size_t i = 0; i < sizeof section; i++)
+            eprom[lies(first, 1 + i)] = section[i];
+    }
+    c = fresh;
+    at6000_start_in(&c, mem, mem_len, mode, check);
+    f = at6000_fetcher_new(mode);
+    f.counter = first;
+    const at6000_fetched stopped = at6000_fetch(c, f, mem, mem_len, eprom, EPROM, n);
+    c = stopped.chain, f = stopped.fetcher;
+    wanted_bytes = LENGTH;
+    GIVES(!open ? AT6000_NO_RUN : astray && n < 7 ? AT6000_BAD_JUMP : AT6000_DONE, &a_fetch);
+    wanted_bytes = 1;
+    GIVES(ANY, &a_fetch);
+    eprom_len = 0;
+    GIVES(open ? AT6000_PAST_EPROM : AT6000_NO_RUN, &a_fetch);
+    wanted_bytes = 0;
+    GIVES(open ? AT6000_MORE : AT6000_NO_RUN, &a_fetch);
+    eprom_len = EPROM;
+    f.counter = EPROM;
+    GIVES(AT6000_ILL_FORMED, &a_fetch);
+    mem_len--;
+    GIVES(AT6000_BAD_CHAIN, &a_fetch);
+    mem_len++;
+}
+
+/* In a mode: from its own first counter, and from one that wraps within the window; at each byte as far as the window's second, and at the
+ * last ones. */
+static void boots(void)
+{
+    const uint32_t own = at6000_fetcher_new(mode).counter, round = mode == 2 ? 5000 : EPROM - 5000;
+
+    GIVES(AT6000_DONE, &a_fetcher_new);
+    for (check = 0; check < 2; check++)
+        for (int jump = 0; jump < 2; jump++)
+            for (size_t n = 0; n <= LENGTH; n = n == HEAD + 1 ? HEAD + BIG - 1 : n + 1) {
+                boot(own, n, jump, 0);
+                boot(round, n, jump, 0);
+            }
+    check = 0;
+    for (size_t n = 0; n < 7; n++)
+        boot(own, n, 1, 1);
+}
+
 int main(void)
 {
-    const struct call *all[] = {&a_new, &a_reset, ON_A_CHAIN, &a_hunt, &a_write, &a_list, &a_tidy, &a_salvage};
+    const struct call *all[] = {&a_new, &a_reset, ON_A_CHAIN, &a_hunt, &a_write, &a_list, &a_tidy, &a_salvage, &a_fetcher_new, &a_fetch};
 
     /* within the window, the places between its second byte and its last are alike */
     for (check = 0; check < 2; check++)
         for (size_t n = 0; n <= LENGTH; n = n == HEAD + 1 ? HEAD + BIG - 1 : n + 1)
             stop(n);
+    mode = 5, boots();
+    mode = 2, boots();
+    mode = 1, boots();
+    c = at6000_start((at6000_chain){.count = 1, .kinds = {10}}, mem, mem_len, 6, 0).chain, f.counter = 0;
+    GIVES(AT6000_BAD_MODE, &a_fetch);
     s = stream, s_len = LENGTH;
     GIVES(AT6000_DONE, &a_hunt, &a_write, &a_list, &a_tidy, &a_salvage);
     tables = out_len = 0;

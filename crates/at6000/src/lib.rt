@@ -3,6 +3,8 @@
 use chain::Chain;
 use chain::Made;
 use chain::Written;
+use eprom::Fetched;
+use eprom::Fetcher;
 use hunt::Hunted;
 use lister::Listed;
 use machine::Answer;
@@ -19,6 +21,7 @@ ghost use Rattle.writer.specs.Write.{Write};
 ghost use Rattle.lister.specs.Listing.{Lists};
 ghost use Rattle.tidy.specs.Tidy.{Tidies};
 ghost use Rattle.salvage.specs.Salvage.{Salvages};
+ghost use Rattle.eprom.specs.Calls.{FetcherNew, Fetch};
 
 #[no_mangle]
 pub extern "C" fn at6000_new(count: u8, kinds: &[u8; 8], mem: &[u8]) -> Made
@@ -134,6 +137,26 @@ pub extern "C" fn at6000_salvage(kind: u8, s: &[u8], out: &mut [u8]) -> Salvaged
     ensures { λ r. ⌜ Salvages kind (now (s .entry)) (now (out .entry)) r (now (out .exit)) ⌝ }
 {
     salvage::salvage(kind, s, out)
+}
+
+#[no_mangle]
+pub extern "C" fn at6000_fetcher_new(mode: u8) -> Fetcher
+    ensures { λ r. ⌜ FetcherNew mode r ⌝ }
+{
+    eprom::fetcher_new(mode)
+}
+
+#[no_mangle]
+pub extern "C" fn at6000_fetch(
+    c: Chain,
+    f: Fetcher,
+    mem: &mut [u8],
+    eprom: &[u8],
+    n: usize,
+) -> Fetched
+    ensures { λ r. ⌜ Fetch c f (now (mem .entry)) (now (eprom .entry)) n r (now (mem .exit)) ⌝ }
+{
+    eprom::fetch(c, f, mem, eprom, n)
 }
 
 // For a controller's main loop. Each in-place call is its call by value, with the chain stored back and the answer handed on.

@@ -11,6 +11,8 @@ use crate::show;
 use chain::Chain;
 use chain::Made;
 use chain::Place;
+use eprom::Fetched;
+use eprom::Fetcher;
 use machine::Fed;
 ghost use Prim.Native.Nat.{_≤_};
 
@@ -18,6 +20,12 @@ ghost use Prim.Native.Nat.{_≤_};
 const WORD: u16 = 0xeeee;
 
 const LONG: u32 = 0xeeeeeeee;
+
+// What goes from call to call: the state, and the fetcher that a board has beside it.
+pub struct Board {
+    pub chain: Chain,
+    pub fetcher: Fetcher,
+}
 
 fn state(c: Chain) {
     let ks = c.kinds;
@@ -73,9 +81,25 @@ fn spelled(s: &[u8]) -> Chain {
     }
 }
 
-// The state before the first call.
-pub fn zero() -> Chain {
-    spelled(&[])
+// The fetcher that the arguments spell.
+fn spelled_fetcher(s: &[u8]) -> Fetcher {
+    let address = [at(s, 5), at(s, 6), at(s, 7)];
+    Fetcher {
+        counter: long(s),
+        control: at(s, 4),
+        address,
+        nulled: at(s, 8),
+    }
+}
+
+// The state and the fetcher before the first call.
+pub fn zero() -> Board {
+    let c = spelled(&[]);
+    let f = spelled_fetcher(&[]);
+    Board {
+        chain: c,
+        fetcher: f,
+    }
 }
 
 fn lent(s: &[u8]) -> Chain {
@@ -102,6 +126,14 @@ pub fn fill(call: Call, mem: &mut [u8]) {
     }
 }
 
+// The call e lays bytes into the EPROM from an address on.
+pub fn burn(call: Call, e: &mut [u8], args: &[u8]) {
+    if call.letter == b'e' {
+        let from = least(call.mem, e.len());
+        cells::copy(&mut e[from..], args);
+    }
+}
+
 fn made(m: Made) -> Chain {
     let c = m.chain;
     show::byte(m.number);
@@ -117,6 +149,30 @@ fn fed(f: Fed) -> Chain {
     show::long(a.mismatches);
     state(c);
     c
+}
+
+fn fetcher(f: Fetcher) -> Fetcher {
+    let address = f.address;
+    show::long(f.counter);
+    show::byte(f.control);
+    show::group(&address);
+    show::byte(f.nulled);
+    f
+}
+
+fn fetched(r: Fetched) -> Board {
+    let c = r.chain;
+    let a = r.answer;
+    let f = r.fetcher;
+    show::byte(a.number);
+    show::long(a.taken);
+    show::long(a.mismatches);
+    state(c);
+    fetcher(f);
+    Board {
+        chain: c,
+        fetcher: f,
+    }
 }
 
 fn length(n: usize) {
@@ -160,8 +216,8 @@ fn list(call: Call, s: &[u8], starts: &mut [u16], ends: &mut [u16], offsets: &mu
     show::longs(offsets);
 }
 
-// The calls on a state; any other letter leaves it.
-pub fn on_state(call: Call, c: Chain, mem: &mut [u8], args: &[u8]) -> Chain {
+// The calls on a state alone; any other letter leaves it.
+fn on_chain(call: Call, c: Chain, mem: &mut [u8], args: &[u8]) -> Chain {
     let letter = call.letter;
     match letter {
         b'=' => lent(args),
@@ -173,6 +229,40 @@ pub fn on_state(call: Call, c: Chain, mem: &mut [u8], args: &[u8]) -> Chain {
         b'f' => fed(machine::slice(c, mem, args)),
         b'p' => made(saved::pick_up(c, mem, args)),
         _ => c,
+    }
+}
+
+// The calls on a state or a fetcher, with as much of the EPROM as the call is lent; any other letter leaves both.
+pub fn on_board(call: Call, b: Board, mem: &mut [u8], e: &[u8], args: &[u8]) -> Board {
+    let c = b.chain;
+    let f = b.fetcher;
+    let letter = call.letter;
+    match letter {
+        b'g' => {
+            let g = fetcher(spelled_fetcher(args));
+            Board {
+                chain: c,
+                fetcher: g,
+            }
+        }
+        b'i' => {
+            let g = fetcher(eprom::fetcher_new(call.a));
+            Board {
+                chain: c,
+                fetcher: g,
+            }
+        }
+        b'x' => {
+            let k = least(call.out, e.len());
+            fetched(eprom::fetch(c, f, mem, &e[0..k], long(args) as usize))
+        }
+        _ => {
+            let d = on_chain(call, c, mem, args);
+            Board {
+                chain: d,
+                fetcher: f,
+            }
+        }
     }
 }
 

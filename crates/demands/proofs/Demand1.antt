@@ -9,6 +9,8 @@ use Rattle.demands.proofs.numbers.WriteTables.{write-table}
 use Rattle.demands.proofs.numbers.ListTables.{list-table, list-taken, list-refused}
 use Rattle.demands.proofs.numbers.TidyTables.{tidy-table, tidy-refused}
 use Rattle.demands.proofs.numbers.SalvageTables.{salvage-table, salvage-refused}
+use Rattle.demands.proofs.numbers.FetchTables.{fetch-numbers}
+use Rattle.demands.proofs.numbers.FetchOpen.{fetch-leaves}
 use Rattle.demands.proofs.numbers.Refused.{new-refused, reset-refused, start-refused, drop-refused, drop-done, byte-ended, slice-refused, slice-ended, more-open, closing-refused, save-refused, pick-up-refused, hunt-refused, write-refused}
 
 pub demand1 : Demand1
@@ -32,6 +34,7 @@ demand1 =
             list-taken = list-taken;
             tidy = tidy-table;
             salvage = salvage-table;
+            fetch = fetch-numbers;
           };
       refusals =
           record {
@@ -52,5 +55,6 @@ demand1 =
             list = list-refused;
             tidy = tidy-refused;
             salvage = salvage-refused;
+            fetch = fetch-leaves;
           };
     }

@@ -7,6 +7,8 @@ pub mod stops
 pub mod patches
 pub mod tidy
 pub mod salvage
+pub mod eprom
+pub mod boards
 pub mod WherePreamble
 pub mod Promised
 pub mod EightDevices

@@ -15,6 +15,8 @@ use Rattle.hunt.proofs.CutShort.{hunt-cut}
 use Rattle.grammar.specs.Sent.{bytesOf}
 use Rattle.grammar.specs.Stream.{Section, streamSent}
 use Rattle.grammar.specs.Fits.{Fitting}
+use Rattle.eprom.specs.declared.Fetcher.{Fetcher}
+use Rattle.eprom.specs.Calls.{FetcherNew}
 use Rattle.demands.specs.Loader.{Loader, Idle, Open, Mode}
 use Rattle.demands.specs.Demand1.{Demand1}
 use Rattle.demands.specs.Demand2.{slices, joined, ran, Demand2a, Demand2e, Demand2f}
@@ -27,9 +29,14 @@ use Rattle.demands.specs.Patches.{PatchesExactly, Apart, AnyOrder, Stack
 use Rattle.demands.specs.WrittenOnce.{WrittenAsOne}
 use Rattle.demands.specs.OneFile.{KeepsTidy, AcceptedExactly, TidiesOnly, TidiesAll, OneFile, Twice, OnlyTidied}
 use Rattle.demands.specs.OldDisks.{KeepsSalvage, InOrderExactly, AsMended, AsFarAsWhole, SoundAlways, MachineGives, OneList, OneStream, SameComesOut, EndsAccepted}
+use Rattle.demands.specs.FetchTable.{FetchNumbers, FetchLeaves}
+use Rattle.demands.specs.EpromBoards.{KeepsFetch, KeepsCalls, FetchedAsFed, InParts, GoesOn, BootsHold}
+use Rattle.demands.specs.EpromCounter.{StartsAt, CounterAsSaid, WithinBits, NeverBeyond}
+use Rattle.demands.specs.EpromStreams.{HeldBoots}
 use Rattle.demands.specs.Ours.{ours}
 use Rattle.demands.specs.Cases.{table, All}
 use Rattle.demands.specs.Wrong.{constant, idle, taking, undoing, eager, exclusiveEnd, plainCount, barring, checkWrites, unloading, loadingFirst, earlierWins, wiping, untidied, earlierKept, touchingApart, announcedCount, filledUp, takenOffset, acceptedAlone, otherOrder, shortClosing, offering, OlderAtEnd, OlderAtControl, offsetsFromFirst, leftBefore, fromOne, toldRefused}
+use Rattle.demands.specs.WrongFetch.{everyNull, stale, upward, farJump, neverHome, shutPast, homePast}
 use Rattle.demands.proofs.Demand1.{demand1}
 use Rattle.demands.proofs.Demand2.{demand2}
 use Rattle.demands.proofs.loads.TwelveCases.{twelve}
@@ -49,6 +56,10 @@ use Rattle.demands.proofs.salvage.SameStream.{same-comes-out}
 use Rattle.demands.proofs.salvage.EndsAccepted.{ends-accepted}
 use Rattle.demands.proofs.salvage.AsMachine.{machine-gives}
 use Rattle.demands.proofs.salvage.OneList.{one-list, one-stream}
+use Rattle.demands.proofs.eprom.EveryLoader.{calls-kept, every-as-fed, every-in-parts, every-goes-on, every-boots, every-counter, every-held, every-within, every-beyond}
+use Rattle.demands.proofs.eprom.SeventeenBits.{starts-at}
+use Rattle.demands.proofs.boards.Kept.{fetch-kept, kept-numbers, kept-leaves}
+use Rattle.demands.proofs.boards.OnlyFetcher.{only-fetcher}
 use Rattle.demands.proofs.WherePreamble.{where-began, where-only}
 use Rattle.demands.proofs.wrong.Shut.{constant-out, idle-out, taken-out, per-slice-out}
 use Rattle.demands.proofs.wrong.Eager.{eager-out}
@@ -57,6 +68,7 @@ use Rattle.demands.proofs.wrong.OlderClosing.{older-end-out, older-cont
 use Rattle.demands.proofs.wrong.PatchOrders.{wiping-apart-out, wiping-stacked-out, barring-stacked-out, offsets-written-out}
 use Rattle.demands.proofs.wrong.Tidiers.{untidied-out, earlier-kept-out, touching-apart-out}
 use Rattle.demands.proofs.wrong.Salvagers.{announced-count-out, filled-up-out, taken-offset-out, accepted-alone-out, other-order-out}
+use Rattle.demands.proofs.wrong.Fetchers.{every-null-out, stale-out, upward-out, far-jump-out, never-home-out, shut-past-out, home-past-out}
 use Rattle.demands.proofs.wrong.HuntFigures.{left-before-out, from-one-out, told-refused-out}
 
 -- 1. 'It takes every byte string, mode, chain and saved place. Public calls ask nothing of the caller. Each refusal has its number in
@@ -234,6 +246,71 @@ our-salvage = (
   accepted-at-end ours salvage-kept,
 )
 
+-- Document 02, wish 1: 'A fetcher's 17-bit counter starts at 00000 (1FFFF in mode 2) and steps up by one each byte (down in mode 2), wrapping past either end.
+-- If the first device's control byte sets B1, the counter takes the external address after that section's first null byte; with no windows there is no jump.
+-- When a run ends, B0 of that control byte decides: clear resets the counter for that run's mode, set keeps its next value.' What each byte leaves, and
+-- 'Refusals: 2, after 4, for any other mode; 17 for a lent counter above 1FFFF; 18 when the counter is not below the EPROM's length: no byte is taken, the
+-- run stays open; 19 for a jump above 1FFFF, at the null byte, which counts as taken and closes the run', are rows of the first demand; here of every loader
+-- whose fetch keeps its promise
+pub each-byte : (l : Loader) → KeepsFetch l → FetchNumbers l × FetchLeaves l
+each-byte l k = (kept-numbers l k, kept-leaves l k)
+
+-- and they leave a loader no other fetch
+pub no-other-fetch : (l : Loader) → FetchNumbers l → FetchLeaves l → KeepsFetch l
+no-other-fetch = only-fetcher
+
+-- 'A fetched run equals the machine fed with its bytes, 19 apart'. From here on of every loader whose start, slice, closing and fetch keep their promises
+pub fed-with-its-bytes : (l : Loader) → KeepsCalls l → FetchedAsFed l
+fed-with-its-bytes = every-as-fed
+
+-- 'boot in modes 1, 2 and 5 from a parallel EPROM': so a stream that fits, and that the EPROM holds where its own bytes send the counter, is fetched and loads
+pub held-streams-boot : (l : Loader) → KeepsCalls l → HeldBoots l
+held-streams-boot = every-held
+
+-- 'bytes fed directly, even those that end a run, and a reset leave the counter': to byte, slice and reset no fetcher is lent, as their types say. A run may
+-- be fetched in parts;
+pub run-in-parts : (l : Loader) → KeepsCalls l → InParts l
+run-in-parts = every-in-parts
+
+-- and with 18 'no byte is taken, the run stays open': where more bytes stand behind those that there were, it goes on
+pub goes-on-past : (l : Loader) → KeepsCalls l → GoesOn l
+goes-on-past = every-goes-on
+
+-- 'Where demand 3 is read of a fetched stream, the fresh start is lent the counter that the stopped run began with.' Memories, registers and fetcher are then
+-- those of the unbroken fetch
+pub every-stop-fetched : (l : Loader) → KeepsCalls l → BootsHold l
+every-stop-fetched = every-boots
+
+-- 'Beside the saved place a stop keeps the counter, that device's control and address bytes (zero until taken) and whether its first null was taken.' This, and
+-- where the counter goes and what a run's end does to it, read off the run's bytes alone
+pub counter-as-bytes-say : (l : Loader) → KeepsCalls l → CounterAsSaid l
+counter-as-bytes-say = every-counter
+
+-- 'starts at 00000 (1FFFF in mode 2)': a new fetcher
+pub counter-starts : (mode : ℕ) (f : Fetcher) → FetcherNew mode f → StartsAt mode f
+counter-starts = starts-at
+
+-- '17-bit': a counter never leaves them; 'an EPROM of up to 131,072 bytes': of a longer one the rest is never read
+pub seventeen-bits : (l : Loader) → KeepsCalls l → WithinBits l × NeverBeyond l
+seventeen-bits l k = (every-within l k, every-beyond l k)
+
+-- so it is of ours; Jumps, JumpDown, ShortEproms and Wraps have EPROMs that show it, by computation
+pub our-boards : KeepsCalls ours × FetchNumbers ours × FetchLeaves ours × FetchedAsFed ours × InParts ours × GoesOn ours × BootsHold ours × CounterAsSaid ours
+    × HeldBoots ours × WithinBits ours × NeverBeyond ours
+our-boards = (
+  calls-kept,
+  each-byte ours fetch-kept .0,
+  each-byte ours fetch-kept .1,
+  fed-with-its-bytes ours calls-kept,
+  run-in-parts ours calls-kept,
+  goes-on-past ours calls-kept,
+  every-stop-fetched ours calls-kept,
+  counter-as-bytes-say ours calls-kept,
+  held-streams-boot ours calls-kept,
+  seventeen-bits ours calls-kept .0,
+  seventeen-bits ours calls-kept .1,
+)
+
 -- The twelve cases of the paper, one table
 pub twelve-cases : All 1 table
 twelve-cases = twelve
@@ -286,6 +363,15 @@ pub record ShutOut : Type 0 where
   pub offset-taken : MachineGives takenOffset → ⊥
   pub salvages-accepted : InOrderExactly acceptedAlone → ⊥
   pub other-order : AsMended otherOrder → ⊥
+  -- document 02, wish 1: a jump after every null byte; what the run before left, kept at a fresh start; counting up in mode 2; a jump above 1FFFF; the
+  -- counter kept though B0 is clear; 18 that closes the run; 18 that puts the counter back
+  pub every-null : FetchedAsFed everyNull → ⊥
+  pub keeps-stale : BootsHold stale → ⊥
+  pub counts-up : FetchedAsFed upward → ⊥
+  pub jumps-far : FetchNumbers farJump → ⊥
+  pub never-home : FetchLeaves neverHome → ⊥
+  pub shuts-past : GoesOn shutPast → ⊥
+  pub home-past : GoesOn homePast → ⊥
   -- the hunt: the bits before the preamble for those left; positions from 1; a position with a refusal
   pub left-before : SaysWhere leftBefore → ⊥
   pub from-one : SaysWhere fromOne → ⊥
@@ -323,6 +409,13 @@ shut-out =
       offset-taken = taken-offset-out;
       salvages-accepted = accepted-alone-out;
       other-order = other-order-out;
+      every-null = every-null-out;
+      keeps-stale = stale-out;
+      counts-up = upward-out;
+      jumps-far = far-jump-out;
+      never-home = never-home-out;
+      shuts-past = shut-past-out;
+      home-past = home-past-out;
       left-before = left-before-out;
       from-one = from-one-out;
       told-refused = told-refused-out;

@@ -16,7 +16,10 @@ use Rattle.lister.specs.Listing.{Lists}
 use Rattle.tidy.specs.Tidy.{Tidies}
 use Rattle.salvage.specs.declared.Salvaged.{Salvaged}
 use Rattle.salvage.specs.Salvage.{Salvages}
-use Rattle.demands.specs.Loader.{AfterSlice, AfterWrite, AfterHunt, AfterList, AfterSalvage}
+use Rattle.eprom.specs.declared.Fetcher.{Fetcher}
+use Rattle.eprom.specs.declared.Fetched.{Fetched}
+use Rattle.eprom.specs.Calls.{Fetch}
+use Rattle.demands.specs.Loader.{AfterSlice, AfterWrite, AfterHunt, AfterList, AfterSalvage, AfterFetch}
 use Rattle.demands.specs.Ours.{ours}
 
 pub start-ours : (c : Chain) (m : List ℕ) (mode check : ℕ) (r : Made) → Start c m mode check r → r ≡ ours .start c m mode check
@@ -49,3 +52,7 @@ tidy-ours kind s out r out′ h = rw (h .answer, h .output)
 pub salvage-ours : (kind : ℕ) (s out : List ℕ) (r : Salvaged) (out′ : List ℕ) → Salvages kind s out r out′
     → _≡_ {A = AfterSalvage} (record { salvaged = r; out = out′ }) (ours .salvage kind s out)
 salvage-ours kind s out r out′ h = rw (h .answer, h .output)
+
+pub fetch-ours : (c : Chain) (f : Fetcher) (m e : List ℕ) (n : ℕ) (r : Fetched) (m′ : List ℕ) → Fetch c f m e n r m′
+    → _≡_ {A = AfterFetch} (record { fetched = r; memory = m′ }) (ours .fetch c f m e n)
+fetch-ours c f m e n r m′ h = rw (h .answer, h .memory)

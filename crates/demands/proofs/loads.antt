@@ -5,6 +5,7 @@ pub mod Cuts
 pub mod FittingLoads
 pub mod AcceptedFits
 pub mod LastByteTaken
+pub mod OneSlice
 pub mod CheckLeaves
 pub mod StreamA
 pub mod CheckBars

@@ -9,5 +9,9 @@ pub mod SliceTables
 pub mod ListTables
 pub mod TidyTables
 pub mod SalvageTables
+pub mod FetchRuns
+pub mod FetchTables
+pub mod FetchLeft
+pub mod FetchOpen
 pub mod Refused
 pub mod InPlace

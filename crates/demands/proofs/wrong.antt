@@ -8,3 +8,4 @@ pub mod PatchOrders
 pub mod OlderClosing
 pub mod Tidiers
 pub mod Salvagers
+pub mod Fetchers

@@ -27,6 +27,8 @@ use Rattle.chain.specs.Table.{Table, chainTable, openTable, Running}
 use Rattle.demands.specs.Table.{startTable, closingTable, saveTable, PickUpNumbers, huntTable, writeTable, salvageTable}
 use Rattle.demands.specs.ByteTable.{byteTable, sliceNumber, sliceTable, ByteNumbers}
 use Rattle.demands.specs.ListTable.{listTable, ListTaken, tidyTable}
+use Rattle.demands.specs.FetchTable.{FetchNumbers, FetchLeaves}
+use Rattle.demands.specs.Ours.{ours}
 
 -- each number exactly when. The lister's stream is of bytes, as its type in the code says, and so is the tidier's
 pub record Numbers : Type 0 where
@@ -49,6 +51,7 @@ pub record Numbers : Type 0 where
       → ListTaken kind mode s (listedOf s (preambleAt mode) (listed kind mode s starts ends offsets) .taken)
   pub tidy : (kind : ℕ) (s : List ℕ) → Bytes s → (out : List ℕ) → Table (tidyOf kind s (length out) .number) (tidyTable kind s out) done
   pub salvage : (kind : ℕ) (s out : List ℕ) → Table (salvageOf kind s (length out) .number) (salvageTable kind s out) done
+  pub fetch : FetchNumbers ours
 
 -- what a slice that 1, 17 or 4 refuses leaves
 pub record AsLent (c : Chain) (m s : List ℕ) : Type 0 where
@@ -130,6 +133,7 @@ pub record Refusals : Type 0 where
       → NothingWritten (tidyOf kind s (length out) .length) out (tidyOutput kind s out)
   pub salvage : (kind : ℕ) (s out : List ℕ) → salvageOf kind s (length out) .number ≢ done
       → SalvageRefused out (salvageOf kind s (length out)) (salvageOutput kind s out)
+  pub fetch : FetchLeaves ours
 
 pub record Demand1 : Type 0 where
   pub numbers : Numbers

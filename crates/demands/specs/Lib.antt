@@ -2,8 +2,10 @@ pub mod Formed
 pub mod Table
 pub mod ByteTable
 pub mod ListTable
-pub mod Demand1
 pub mod Loader
+pub mod FetchTable
+pub mod Ours
+pub mod Demand1
 pub mod WherePreamble
 pub mod Demand2
 pub mod Demand3
@@ -13,7 +15,10 @@ pub mod Patches
 pub mod WrittenOnce
 pub mod OneFile
 pub mod OldDisks
+pub mod EpromBoards
+pub mod EpromCounter
+pub mod EpromStreams
 pub mod Second
-pub mod Ours
 pub mod Wrong
+pub mod WrongFetch
 pub mod Cases

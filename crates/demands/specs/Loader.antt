@@ -12,6 +12,8 @@ use Rattle.machine.specs.declared.Fed.{Fed}
 use Rattle.hunt.specs.declared.Hunted.{Hunted}
 use Rattle.lister.specs.declared.Listed.{Listed}
 use Rattle.salvage.specs.declared.Salvaged.{Salvaged}
+use Rattle.eprom.specs.declared.Fetcher.{Fetcher}
+use Rattle.eprom.specs.declared.Fetched.{Fetched}
 use Rattle.chain.specs.Bytes.{Bytes}
 
 -- a slice's answer and the memory it leaves
@@ -49,6 +51,11 @@ pub record AfterSalvage : Type 0 where
 abbrev pub rescued : AfterSalvage → List ℕ
 rescued w = take (w .salvaged .length) (w .out)
 
+-- a fetch's answer and the memory it leaves
+pub record AfterFetch : Type 0 where
+  pub fetched : Fetched
+  pub memory : List ℕ
+
 -- the parameters stand in the calls' own order
 pub record Loader : Type 0 where
   pub start : Chain → List ℕ → ℕ → ℕ → Made
@@ -59,25 +66,29 @@ pub record Loader : Type 0 where
   pub hunt : List ℕ → List ℕ → AfterHunt
   pub tidy : ℕ → List ℕ → List ℕ → AfterWrite
   pub salvage : ℕ → List ℕ → List ℕ → AfterSalvage
+  pub fetch : Chain → Fetcher → List ℕ → List ℕ → ℕ → AfterFetch
 
 -- a loader with one call replaced
 abbrev pub with·slice : Loader → (Chain → List ℕ → List ℕ → AfterSlice) → Loader
-with·slice l f = record { start = l .start; slice = f; closing = l .closing; write = l .write; list = l .list; hunt = l .hunt; tidy = l .tidy; salvage = l .salvage }
+with·slice l f = record { start = l .start; slice = f; closing = l .closing; write = l .write; list = l .list; hunt = l .hunt; tidy = l .tidy; salvage = l .salvage; fetch = l .fetch }
 
 abbrev pub with·closing : Loader → (Chain → List ℕ → List ℕ → AfterWrite) → Loader
-with·closing l f = record { start = l .start; slice = l .slice; closing = f; write = l .write; list = l .list; hunt = l .hunt; tidy = l .tidy; salvage = l .salvage }
+with·closing l f = record { start = l .start; slice = l .slice; closing = f; write = l .write; list = l .list; hunt = l .hunt; tidy = l .tidy; salvage = l .salvage; fetch = l .fetch }
 
 abbrev pub with·list : Loader → (ℕ → ℕ → List ℕ → List ℕ → List ℕ → List ℕ → AfterList) → Loader
-with·list l f = record { start = l .start; slice = l .slice; closing = l .closing; write = l .write; list = f; hunt = l .hunt; tidy = l .tidy; salvage = l .salvage }
+with·list l f = record { start = l .start; slice = l .slice; closing = l .closing; write = l .write; list = f; hunt = l .hunt; tidy = l .tidy; salvage = l .salvage; fetch = l .fetch }
 
 abbrev pub with·hunt : Loader → (List ℕ → List ℕ → AfterHunt) → Loader
-with·hunt l f = record { start = l .start; slice = l .slice; closing = l .closing; write = l .write; list = l .list; hunt = f; tidy = l .tidy; salvage = l .salvage }
+with·hunt l f = record { start = l .start; slice = l .slice; closing = l .closing; write = l .write; list = l .list; hunt = f; tidy = l .tidy; salvage = l .salvage; fetch = l .fetch }
 
 abbrev pub with·tidy : Loader → (ℕ → List ℕ → List ℕ → AfterWrite) → Loader
-with·tidy l f = record { start = l .start; slice = l .slice; closing = l .closing; write = l .write; list = l .list; hunt = l .hunt; tidy = f; salvage = l .salvage }
+with·tidy l f = record { start = l .start; slice = l .slice; closing = l .closing; write = l .write; list = l .list; hunt = l .hunt; tidy = f; salvage = l .salvage; fetch = l .fetch }
 
 abbrev pub with·salvage : Loader → (ℕ → List ℕ → List ℕ → AfterSalvage) → Loader
-with·salvage l f = record { start = l .start; slice = l .slice; closing = l .closing; write = l .write; list = l .list; hunt = l .hunt; tidy = l .tidy; salvage = f }
+with·salvage l f = record { start = l .start; slice = l .slice; closing = l .closing; write = l .write; list = l .list; hunt = l .hunt; tidy = l .tidy; salvage = f; fetch = l .fetch }
+
+abbrev pub with·fetch : Loader → (Chain → Fetcher → List ℕ → List ℕ → ℕ → AfterFetch) → Loader
+with·fetch l f = record { start = l .start; slice = l .slice; closing = l .closing; write = l .write; list = l .list; hunt = l .hunt; tidy = l .tidy; salvage = l .salvage; fetch = f }
 
 -- a lent chain that no number refuses, with no run open: eight kinds and registers, and bytes, as the types of the code say
 pub record Idle (c : Chain) (m : List ℕ) : Type 0 where

@@ -9,6 +9,7 @@ use Rattle.lister.specs.Listing.{listed, listing, listedOf, startsOf, endsOf, o
 use Rattle.hunt.specs.Hunt.{huntOf, huntOut}
 use Rattle.tidy.specs.Tidy.{tidyOf, tidyOutput}
 use Rattle.salvage.specs.Salvage.{salvageOf, salvageOutput}
+use Rattle.eprom.specs.Calls.{fetchOf, fetchMemory}
 use Rattle.demands.specs.Loader.{Loader}
 
 abbrev pub ours : Loader
@@ -34,4 +35,5 @@ ours =
       hunt = λ s out. record { hunted = huntOf s (length out); out = huntOut s out };
       tidy = λ kind s out. record { written = tidyOf kind s (length out); out = tidyOutput kind s out };
       salvage = λ kind s out. record { salvaged = salvageOf kind s (length out); out = salvageOutput kind s out };
+      fetch = λ c f m e n. record { fetched = fetchOf c f m e n; memory = fetchMemory c f m e n };
     }

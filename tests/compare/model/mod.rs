@@ -3,6 +3,7 @@
 
 pub mod chain;
 pub mod closing;
+pub mod eprom;
 pub mod hunt;
 pub mod kinds;
 pub mod lister;

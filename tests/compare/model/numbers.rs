@@ -18,13 +18,18 @@ pub const BAD_DATA: u8 = 14;
 pub const TOO_SHORT: u8 = 15;
 pub const MORE: u8 = 16;
 pub const ILL_FORMED: u8 = 17;
+pub const PAST_EPROM: u8 = 18;
+pub const BAD_JUMP: u8 = 19;
 pub const NO_HEAD: u8 = 27;
 
 /// "Preamble B2 hex, postamble 4D hex."
 pub const PREAMBLE: u8 = 0xB2;
 pub const POSTAMBLE: u8 = 0x4D;
 
-/// Bits of a control byte: B2 ends the chain here, B3 disables checks, B4 bars later runs.
+/// Bits of a control byte: B0 keeps an EPROM's counter, B1 makes it jump, B2 ends the chain here, B3 disables checks, B4
+/// bars later runs.
+pub const BIT_0: u8 = 0x01;
+pub const BIT_1: u8 = 0x02;
 pub const BIT_2: u8 = 0x04;
 pub const BIT_3: u8 = 0x08;
 pub const BIT_4: u8 = 0x10;

@@ -29,7 +29,7 @@ use Rattle.demands.specs.ByteTable.{ByteClaim, _whenever_, byteClaims, c
 use Rattle.demands.proofs.numbers.ByteTables.{own-same, own-table, slice-off}
 
 -- a condition that a byte's number ends the run by
-abbrev Ends : (Chain → ℕ → Type 0) → Type 0
+abbrev pub Ends : (Chain → ℕ → Type 0) → Type 0
 Ends P = (c : Chain) (b : ℕ) → P c b → numberOf c b ≢ more
 
 -- ---- a run, part by part
@@ -47,7 +47,7 @@ next-number : (xs : List ℕ) (b : ℕ) (r : Run) → runOf r xs .number ≡ mor
 next-number xs b r h = ap (λ (x : Run). x .number) (run-append xs (b ∷ []) r) ∙ one-number b (runOf r xs) h
 
 -- the first of n turns after which something is not 16
-turn : (f : ℕ → ℕ) → f 0 ≡ more → (n : ℕ) → (f n ≡ more) ⊎ ((k : ℕ) × (k < n) × (f k ≡ more) × (f (suc k) ≢ more))
+pub turn : (f : ℕ → ℕ) → f 0 ≡ more → (n : ℕ) → (f n ≡ more) ⊎ ((k : ℕ) × (k < n) × (f k ≡ more) × (f (suc k) ≢ more))
 turn f z zero = inl z
 turn f z (suc n) =
     ⊎-elim
@@ -119,7 +119,7 @@ module _ (c : Chain) (m s : List ℕ) (z : feedNumber c (length m) ≡ done) whe
 -- ---- the table
 
 -- each condition of a byte ends the run
-abbrev AllEnd : List ByteClaim → Type 0
+abbrev pub AllEnd : List ByteClaim → Type 0
 AllEnd [] = Unit {0}
 AllEnd ((n whenever P) ∷ claims) = Ends P × AllEnd claims
 
@@ -127,15 +127,15 @@ all-end : (claims : List ByteClaim) → ((c : Chain) (b : ℕ) → numberOf c b 
 all-end [] h = tt
 all-end ((n whenever P) ∷ claims) h = (λ c b p e. h c b e .0 p, all-end claims (λ c b e. h c b e .1))
 
-own-ends : AllEnd byteClaims
+pub own-ends : AllEnd byteClaims
 own-ends = all-end byteClaims (λ c b. else-of (ownTable c b) (numberOf c b) more (own-table c b) .0)
 
 -- their numbers, none of them given
-abbrev noRules : List ByteClaim → List Rule
+abbrev pub noRules : List ByteClaim → List Rule
 noRules [] = []
 noRules ((n whenever P) ∷ claims) = (false gives n) ∷ noRules claims
 
-m-false : {P : Type 0} → (P → ⊥) → Means false true P
+pub m-false : {P : Type 0} → (P → ⊥) → Means false true P
 m-false h = record { says = λ e. absurd (false≢true e); said = λ p. absurd (h p) }
 
 own-number : (c : Chain) (b : ℕ) → numberOf c b ≡ firstOf (byteRules c b) more

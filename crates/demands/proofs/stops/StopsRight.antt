@@ -89,7 +89,7 @@ module _ (c : Chain) (m : List ℕ) (mode : ℕ) (h : stateNumber c (length m) �
   unfolding fedOf
   whole-taken w = sym (ap (λ (x : AfterSlice). x .fed .answer .taken) (load-is c m mode h k z bs)) ∙ w .taken
 
-  whole-accepted : Whole ours mode bs c m → Accepted (begun c mode writing) bs
+  pub whole-accepted : Whole ours mode bs c m → Accepted (begun c mode writing) bs
   unfolding fedOf
   whole-accepted w =
       accepted-taken bs (begun c mode writing) m refl

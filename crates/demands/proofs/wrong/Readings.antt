@@ -35,7 +35,7 @@ use Rattle.demands.specs.Ours.{ours}
 use Rattle.demands.specs.Wrong.{undoing, exclusiveEnd, plainCount, barring, checkWrites, unloading, loadingFirst, earlierWins, shortClosing, offsetsFromFirst}
 use Rattle.grammar.proofs.FitsAccepted.{first-lets}
 use Rattle.demands.proofs.loads.StreamA.{teaching, cells0, windowA, sectionA, zeros-bytes, idle-teaching, mode-one, fits-A, streamA, small-A, reading-A}
-use Rattle.demands.proofs.wrong.Shut.{whole-seen}
+use Rattle.demands.proofs.loads.OneSlice.{whole-seen}
 use Rattle.chain.proofs.Bytes.{bytes-below}
 
 -- ---- an end taken as exclusive: A then leaves cell 11

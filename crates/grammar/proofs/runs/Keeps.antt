@@ -35,7 +35,7 @@ counted-keeps c g p n k z h =
     rw (z w, m) (rw m at h))
     (λ e. rw e (rw e at h))
 
-write-misses : (c : Chain) (m : List ℕ) (b : ℕ) → c .place .check ≡ writing → missedOf c m b ≡ 0
+pub write-misses : (c : Chain) (m : List ℕ) (b : ℕ) → c .place .check ≡ writing → missedOf c m b ≡ 0
 unfolding missedOf
 write-misses c m b w = rw (w, and-false)
 
