@@ -48,7 +48,7 @@ answered f past =
   where
     never : past-eprom ≡ bad-jump → ⊥
     never q = omega arith
-answered f (strays c) =
+answered f (strays c {m = m}) =
     record {
       memory = refl;
       taken = refl;

@@ -75,7 +75,7 @@ module _ (c : Chain) (f : Fetcher) where
 
   lent-same : (m : List ℕ) {rs : List Rule} {cs : List Claim} → Same rs cs
       → Same (lentRules c f (length m) rs) (lentTable c f m ((bad-mode when NoEprom c) ∷ cs))
-  lent-same m t =
+  lent-same m {rs = rs} {cs = cs} t =
       row (m-bad-chain (c .count) (c .kinds) (length m))
       (row (m-or (m-ill-formed c) (m-lt last-count (f .counter))) (row (m-eq (c .place .running) closed) (row m-no-eprom t)))
 
