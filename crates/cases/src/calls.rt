@@ -13,7 +13,7 @@ const WORD: u16 = 0xeeee;
 const LONG: u32 = 0xeeeeeeee;
 
 // What goes from call to call: the state, and the fetcher that a board has beside it.
-#[derive(Drop)]
+#[derive(Clone, Copy)]
 pub struct Board {
     pub chain: Chain,
     pub fetcher: Fetcher,

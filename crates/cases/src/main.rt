@@ -24,7 +24,7 @@ const ROOM: usize = 65536;
 // What stands in the output before the call.
 const LENT: u8 = 0xee;
 
-#[derive(Drop)]
+#[derive(Clone, Copy)]
 struct Next {
     more: bool,
     board: Board,

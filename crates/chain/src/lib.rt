@@ -17,7 +17,7 @@ use crate::state::bad_chain;
 // bytes and no bools, since a caller in C may lend any byte, and every one has its answer. The order of the fields is
 // the C layout, and worth a factor of two in speed.
 #[repr(C)]
-#[derive(Drop)]
+#[derive(Clone, Copy)]
 pub struct Place {
     pub running: u8,
     pub mode: u8,
@@ -35,7 +35,7 @@ pub struct Place {
 
 // The state of a chain: unused kinds and registers are zero, and the open place, if any.
 #[repr(C)]
-#[derive(Drop)]
+#[derive(Clone, Copy)]
 pub struct Chain {
     pub count: u8,
     pub kinds: [u8; 8],
@@ -45,7 +45,7 @@ pub struct Chain {
 
 // A state and the number of the call that answers it.
 #[repr(C)]
-#[derive(Drop)]
+#[derive(Clone, Copy)]
 pub struct Made {
     pub chain: Chain,
     pub number: u8,
@@ -53,7 +53,7 @@ pub struct Made {
 
 // How much of a lent output was written, 0 where the number is not 0.
 #[repr(C)]
-#[derive(Drop)]
+#[derive(Clone, Copy)]
 pub struct Written {
     pub number: u8,
     pub length: usize,

@@ -20,7 +20,7 @@ use machine::Answer;
 // What a stop keeps beside the saved place: the counter, the first device's control byte and external address, low byte first, zero until taken, and whether
 // its first null byte was taken, 0 for not yet.
 #[repr(C)]
-#[derive(Drop)]
+#[derive(Clone, Copy)]
 pub struct Fetcher {
     pub counter: u32,
     pub control: u8,
@@ -30,7 +30,7 @@ pub struct Fetcher {
 
 // What a fetch leaves: the state, the number and the run's counts, and the fetcher.
 #[repr(C)]
-#[derive(Drop)]
+#[derive(Clone, Copy)]
 pub struct Fetched {
     pub chain: Chain,
     pub answer: Answer,

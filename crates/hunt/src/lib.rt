@@ -13,7 +13,7 @@ pub const NOWHERE: usize = 65;
 // Where the preamble began, 0 to 64, how many bits are left after the last whole byte, and how many bytes were written; each 0 where the
 // number is not 0.
 #[repr(C)]
-#[derive(Drop)]
+#[derive(Clone, Copy)]
 pub struct Hunted {
     pub number: u8,
     pub p: u8,

@@ -14,7 +14,7 @@ use reader::window::ReadWindow;
 
 // All but the number and the bytes taken are 0 unless the number is 0.
 #[repr(C)]
-#[derive(Drop)]
+#[derive(Clone, Copy)]
 pub struct Listed {
     pub number: u8,
     pub windows: u8,

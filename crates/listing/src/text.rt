@@ -87,7 +87,7 @@ fn windows(n: u8, starts: &[u16], ends: &[u16], out: &mut [u8]) -> usize
 }
 
 // What was listed: the number and the bytes taken for the last line, and where the windows' lines stop.
-#[derive(Drop)]
+#[derive(Clone, Copy)]
 struct Listing {
     number: u8,
     taken: u32,

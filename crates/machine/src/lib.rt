@@ -19,7 +19,7 @@ use chain::{Chain, Made, closed_place};
 
 // The number, and the run's bytes taken and mismatches so far.
 #[repr(C)]
-#[derive(Drop)]
+#[derive(Clone, Copy)]
 pub struct Answer {
     pub number: u8,
     pub taken: u32,
@@ -27,7 +27,7 @@ pub struct Answer {
 }
 
 #[repr(C)]
-#[derive(Drop)]
+#[derive(Clone, Copy)]
 pub struct Fed {
     pub chain: Chain,
     pub answer: Answer,

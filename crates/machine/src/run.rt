@@ -16,7 +16,7 @@ use chain::window::{fits, pair, width};
 use chain::{Chain, Made, closed_place};
 
 // The chain after some front bytes of a slice, and how many they were.
-#[derive(Drop)]
+#[derive(Clone, Copy)]
 struct Front {
     chain: Chain,
     used: usize,

@@ -13,7 +13,7 @@ use chain::paper::*;
 pub const HEAD_LENGTH: usize = 6;
 
 // Where a reading stops: the number, and the bytes taken.
-#[derive(Drop)]
+#[derive(Clone, Copy)]
 pub struct Stop {
     pub number: u8,
     pub taken: usize,

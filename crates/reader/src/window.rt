@@ -7,7 +7,7 @@ use chain::window::{pair, width};
 
 // The window's bounds, the position of its first data byte, and the position after its last. Where the number is not 0
 // the first three are 0, and next is the position after the refused byte, or the length of a stream that is used up.
-#[derive(Drop)]
+#[derive(Clone, Copy)]
 pub struct ReadWindow {
     pub number: u8,
     pub start: u16,

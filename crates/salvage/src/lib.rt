@@ -18,7 +18,7 @@ const NULL: u8 = 0x00;
 
 // All but the number are 0 unless the number is 0. end is 0 where the stream was accepted, its refusal, or 16 where it was used up.
 #[repr(C)]
-#[derive(Drop)]
+#[derive(Clone, Copy)]
 pub struct Salvaged {
     pub number: u8,
     pub kept: u8,
@@ -29,7 +29,7 @@ pub struct Salvaged {
 }
 
 // How many windows are kept, the byte after the last, and the number that the next one gives, 0 where all announced are kept.
-#[derive(Drop)]
+#[derive(Clone, Copy)]
 struct Kept {
     number: u8,
     windows: u8,

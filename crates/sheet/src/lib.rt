@@ -18,7 +18,7 @@ use chain::paper::*;
 // The figures of one stream, with its number, or the sums of all, with the call's: bytes taken, data bytes, distinct cells stored into, cells stored into
 // more than once, bits of memory that differ before and after, clock edges.
 #[repr(C)]
-#[derive(Drop)]
+#[derive(Clone, Copy)]
 pub struct Sheet {
     pub number: u8,
     pub taken: u32,

@@ -20,13 +20,13 @@ use hunt::{NOWHERE, find};
 use machine::{Answer, start};
 
 // A row, and the chain that its stream leaves.
-#[derive(Drop)]
+#[derive(Clone, Copy)]
 pub struct Loaded {
     pub chain: Chain,
     pub row: Sheet,
 }
 
-#[derive(Drop)]
+#[derive(Clone, Copy)]
 struct Counts {
     cells: u32,
     again: u32,

@@ -16,7 +16,7 @@ use hunt::byte_at;
 use machine::{ahead, past_data, past_header};
 
 // Stores so far: how many, none below the cell low and none from the cell top on; in order while no cell is stored into again.
-#[derive(Drop)]
+#[derive(Clone, Copy)]
 pub struct Walked {
     pub stored: usize,
     pub low: usize,

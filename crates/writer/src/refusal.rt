@@ -12,7 +12,7 @@ use chain::window::width;
 const MOST_WINDOWS: usize = 255;
 
 // What the tables of windows give.
-#[derive(Drop)]
+#[derive(Clone, Copy)]
 struct Summed {
     number: u8,
     sum: usize,
