@@ -1,5 +1,7 @@
 // The C interface: each call under its C name, by value, with the call's own promise; and three calls that update the chain where the
 // caller keeps it.
+#![tactic(auto)]
+
 ghost use Rattle.std.specs.Prelude.{◌≡◌};
 ghost use Rattle.at6000.specs.InPlace.{StartIn, SliceIn, PickUpIn};
 ghost use Rattle.chain.specs.Calls.{New, Reset};

@@ -1,4 +1,6 @@
 // What one byte of an open run gives, and where the run goes on.
+#![tactic(auto)]
+
 ghost use Rattle.std.specs.Prelude.{◌≡◌, ◌&&◌, ◌==◌};
 ghost use Rattle.chain.specs.Paper.{at_preamble, at_second, at_control, at_check, at_start_low, at_end_low, barred, no_check, more, checking, B3, B4};
 ghost use Rattle.chain.specs.Rules.{pick};

@@ -1,5 +1,7 @@
 // All cases of documents 01 and 02 but the twelve proved ones: a script of calls comes from standard input, each call is made, and a line says what it answered
 // and what it left behind. tests/model/cases.py lists the cases, and works out from the paper what this program must print.
+#![tactic(auto)]
+
 mod calls;
 mod script;
 mod sheets;

@@ -1,4 +1,6 @@
 // Bytes and blocks of bytes: one block copied over another, and in how many places two differ, both as far as the shorter of the two goes.
+#![tactic(auto)]
+
 ghost use Rattle.std.specs.Prelude.{◌≡◌, ◌≤◌, ◌<◌, length, ◌⊎◌};
 ghost use Rattle.std.proofs.lemmas.List.Edits.{sets};
 ghost use Rattle.cells.specs.Differ.{unlike_of, differs};

@@ -1,4 +1,6 @@
 // A chain of devices: the paper's constants, kinds and sizes, the state, what makes a state refused, and how one is made and reset.
+#![tactic(auto)]
+
 pub mod eight;
 pub mod kinds;
 pub mod paper;

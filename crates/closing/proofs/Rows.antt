@@ -1,6 +1,6 @@
 -- Each row of closing bytes ends a run that awaits its byte: by the byte's own step and the row of the byte after it. Assumes nothing.
 use Prim.Native.Nat.{ℕ, ◌+◌, ◌-◌, ◌*◌, ◌/◌, ◌%◌, ◌<◌, ◌≤◌}
-use mathlib.Core.Bool.{true, false, ◌||◌, and-false, or_true}
+use mathlib.Core.Bool.{true, false, ◌||◌, and-false, or-true}
 use mathlib.Core.Path.{◌≡◌, refl, ◌∙◌}
 use mathlib.Core.List.{List, [], ◌∷◌}
 use native.Mathlib.Nat.{div-add-mod', mod-lt}
@@ -153,7 +153,7 @@ ends_7 c m s e = ends_step c m bad_start _ 0x00 (0xff ∷ 0xff ∷ []) (step_7 c
 pub ends_10 : (c : Chain) (m : List ℕ) → size_here c ≤ 65535 → c.place.awaited ≡ at_end → Ends c m (0xff ∷ 0xff ∷ []) bad_end
 ends_10 c m s e =
     ends_step c m bad_end _ 0xff (0xff ∷ []) (step_10 c m 0xff e) refl refl
-    (ends-end _ m 0xff refl (rw (le-ltb 65535 (size_here c) s, or_true)))
+    (ends-end _ m 0xff refl (rw (le-ltb 65535 (size_here c) s, or-true)))
 
 pub ends_9 : (c : Chain) (m : List ℕ) → size_here c ≤ 65535 → c.place.awaited ≡ at_start_low
     → Ends c m (after_start c) (pick (ltb (with_ff c.place.start) (size_here c)) bad_end bad_start)

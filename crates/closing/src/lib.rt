@@ -1,5 +1,7 @@
 // The closing bytes of a stopped run: they end it and change no cell and no register. They are written, not fed: once their
 // length is known they go straight from the lent memory to the output.
+#![tactic(auto)]
+
 mod output;
 
 ghost use Rattle.std.specs.Prelude.{◌≡◌, ◌++◌, ◌≤◌, length};

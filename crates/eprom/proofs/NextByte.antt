@@ -1,6 +1,6 @@
 -- A fetched byte with which the run goes on, and what the next one is met with. Assumes nothing.
 use Rattle.std.proofs.Common.{◌≡◌, ℕ, zero, suc, ◌+◌, ◌%◌, ◌^◌, ◌<◌, ◌≤◌, Bool, true, false, eqb, leb, ◌⊎◌, List, [], ◌∷◌, length, get_or, take, sym, refl, ap, ◌∙◌, subst, inl, inr, ⊎_elim, arith, lit<, lit≤, ltb-false, eq-eqb, ne_eqb, eqb-true, leb-false, leb-true}
-use mathlib.Core.Bool.{and-false, or_true}
+use mathlib.Core.Bool.{and-false, or-true}
 use native.Mathlib.Nat.{mod-add-mod}
 use borrow.Author.Tests.{eqb-false}
 use Rattle.chain.specs.declared.Chain.{Chain}
@@ -209,7 +209,7 @@ module _ (c : Chain) (m : List ℕ) (f : Fetcher) (b : ℕ) where
     -- the null byte: nothing is kept behind it
     null_settles : p.awaited ≡ at_null → settled p₁ f₁ ≡ true
     unfolding settled advance_of
-    null_settles a = rw (row_next, a) (simp (taken f.nulled, or_true))
+    null_settles a = rw (row_next, a) (simp (taken f.nulled, or-true))
       where
         taken : (n : ℕ) → eqb (pick (eqb n not_yet) 1 n) not_yet ≡ false
         taken n = by_test (eqb n not_yet) (λ e. rw e) (λ e. rw (e, e))

@@ -1,7 +1,7 @@
 -- Where nothing more of a run is kept: no jump is left, and it stays so. Assumes nothing.
 use Rattle.std.proofs.Common.{◌≡◌, ℕ, ◌+◌, ◌%◌, ◌^◌, ◌<◌, ◌≤◌, Bool, true, false, not, ◌&&◌, ◌||◌, eqb, ltb, leb, ◌⊎◌, List, sym, refl, ap, ◌∙◌, inl, inr, ⊎_elim, true≢false, mod-eq_of_lt, arith, lit<, lit≤, eq-eqb, ne_eqb, eqb-true, le-leb, leb-false, leb-true}
-use mathlib.Core.Bool.{and-true, and-false, or_true}
-use borrow.Author.Tests.{eqb-false, not_false}
+use mathlib.Core.Bool.{and-true, and-false, or-true}
+use borrow.Author.Tests.{eqb-false, not-false}
 use Rattle.chain.specs.declared.Chain.{Chain}
 use Rattle.chain.specs.declared.Place.{Place}
 use Rattle.chain.specs.Paper.{preamble, no_windows, two_preambles, at_preamble, at_second, at_control, at_address, at_address2, at_address3, at_count, at_null, at_start, at_start_low, at_end, at_end_low, at_data, at_check, most_devices, done, bad_check_byte, last_device, more, B1}
@@ -122,7 +122,7 @@ next_in_chain : (c : Chain) (b : ℕ) → c.place.awaited ≡ at_check → numbe
 next_in_chain c b a n =
     let none = no_rule c b n in
     let at : awaits c at_check ≡ true = eq-eqb c.place.awaited at_check a in
-    let q : eqb b preamble ≡ true = not_false (eqb b preamble) (rw (rw at at (none done)) at (rw at at (none bad_check_byte))) in
+    let q : eqb b preamble ≡ true = not-false (eqb b preamble) (rw (rw at at (none done)) at (rw at at (none bad_check_byte))) in
     leb-false c.count (c.place.device + 1) (rw (at, q) at (none last_device))
 
 pub went_device : (c : Chain) (m : List ℕ) (b : ℕ) → c.count ≤ most_devices → c.place.awaited ≤ at_check → c.place.device < c.count → number_of c b ≡ more

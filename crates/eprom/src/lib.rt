@@ -1,4 +1,6 @@
 // Booting from an EPROM: the bytes of a run fetched at an address counter and fed to the machine.
+#![tactic(auto)]
+
 mod block;
 mod counter;
 mod down;

@@ -7,7 +7,7 @@ use native.Mathlib.Nat.{mod-eq_of_lt}
 use native.Mathlib.Omega.{arith}
 use lib.Dec.{eqb}
 use lib.ListN.{length}
-use borrow.Author.Tests.{eqb-true, eqb-false, leb-false, not_false}
+use borrow.Author.Tests.{eqb-true, eqb-false, leb-false, not-false}
 use Rattle.chain.specs.declared.Chain.{Chain}
 use Rattle.chain.specs.declared.Place.{Place}
 use Rattle.chain.specs.Paper.{preamble, postamble, no_windows, at_preamble, at_second, at_control, at_address, at_address2, at_address3, at_count, at_null, at_check, two_preambles, B2}
@@ -192,7 +192,7 @@ pub record NextBegins (c : Chain) (p : Place) (b : ℕ) : Type 0 where
 next-begins : (c : Chain) (p : Place) (b : ℕ) → Clean (with_place c (with_awaited p at_check)) b → NextBegins c p b
 next-begins c p b k =
     let n : eqb b postamble ≡ false = k.unfinished in
-    let e : eqb b preamble ≡ true = not_false (eqb b preamble) (rw n at k.check-byte) in
+    let e : eqb b preamble ≡ true = not-false (eqb b preamble) (rw n at k.check-byte) in
     record {
       byte = eqb-true b preamble e;
       bit = rw e at k.goes_on_lem;
@@ -296,7 +296,7 @@ unfolding registers_of missed_of advance_of
 second_one c bs p u h = one c bs (with_awaited p at_second) (λ b. with_awaited (counting p) at_control) refl (λ b. (refl, refl, refl)) u h
 
 is_preamble : (b : ℕ) → not (eqb b preamble) ≡ false → b ≡ preamble
-is_preamble b e = eqb-true b preamble (not_false (eqb b preamble) e)
+is_preamble b e = eqb-true b preamble (not-false (eqb b preamble) e)
 
 -- after the lead the sections follow
 module _ (c : Chain) (mode check : ℕ) (bs : List ℕ) where

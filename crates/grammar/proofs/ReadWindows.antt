@@ -7,7 +7,7 @@ use native.Mathlib.Nat.{div-add-mod', mod-lt, mul-div_cancel}
 use native.Mathlib.Omega.{arith}
 use lib.Dec.{ltb, lit<}
 use lib.ListN.{length}
-use borrow.Author.Tests.{ltb-true, ltb-false, lt-leb, le-leb, not_false, lt-ltb}
+use borrow.Author.Tests.{ltb-true, ltb-false, lt-leb, le-leb, not-false, lt-ltb}
 use Rattle.chain.specs.declared.Chain.{Chain}
 use Rattle.chain.specs.declared.Place.{Place}
 use Rattle.chain.specs.Paper.{at_null, at_start, at_start_low, at_end, at_end_low, at_data, at_check}
@@ -99,7 +99,7 @@ parse_start c bs p w u h =
       start = with_low (x.byte * 256) y.byte;
       rest = y.rest;
       run = counting (counting (counting p));
-      inside = ltb-true _ _ (not_false _ y.tells.start);
+      inside = ltb-true _ _ (not-false _ y.tells.start);
       left = rw (high x.byte y.byte y.small, low x.byte y.byte y.small) (left_both n.left (left_both x.left y.left));
     }
 
@@ -128,7 +128,7 @@ parse_end c bs p w s u h =
       rest = y.rest;
       run = counting (counting p);
       order = ltb-false _ _ t.0;
-      inside = ltb-true _ _ (not_false _ t.1);
+      inside = ltb-true _ _ (not-false _ t.1);
       left = rw (high x.byte y.byte y.small, low x.byte y.byte y.small) (left_both x.left y.left);
     }
 

@@ -1,4 +1,6 @@
 // The serial bit hunt: the bytes of a stream that comes least significant bit first, from its preamble on, wherever that begins.
+#![tactic(auto)]
+
 ghost use Rattle.std.specs.Prelude.{◌≡◌, ◌+◌, ◌*◌, ◌/◌, ◌%◌, ◌^◌, ◌<◌, ◌≤◌, length, ◌⊎◌};
 ghost use Rattle.std.proofs.lemmas.List.Edits.{sets};
 ghost use Rattle.hunt.specs.Bits.{byte_at, bytes_from, whole_from};

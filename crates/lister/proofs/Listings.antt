@@ -4,7 +4,7 @@ use mathlib.Core.Bool.{not}
 use mathlib.Core.Path.{◌≡◌, ◌∙◌}
 use mathlib.Core.List.{List}
 use native.Mathlib.Omega.{arith}
-use borrow.Author.Tests.{eqb-false, not_true}
+use borrow.Author.Tests.{eqb-false, not-true}
 use lib.Dec.{eqb}
 use Rattle.chain.proofs.Means.{says, reads}
 use Rattle.chain.specs.Paper.{first_mode, two_preambles, done, bad_chain, bad_mode, too_short}
@@ -29,7 +29,7 @@ module _ (size mode : ℕ) (s : List ℕ) (a b c : ℕ) where
       let n : ℕ = count_at s (preamble_at mode) in
       let x = passes (eqb size 0) bad_chain 0 _ (λ y z. omega (arith, z)) h in
       let y = passes (not (from first_mode two_preambles mode)) bad_mode 0 _ (λ y z. omega (arith, z)) x.2 in
-      let r = passes (not (eqb e.number done)) e.number e.taken _ (λ q z. eqb-false e.number done (not_true (eqb e.number done) q) z) y.2 in
+      let r = passes (not (eqb e.number done)) e.number e.taken _ (λ q z. eqb-false e.number done (not-true (eqb e.number done) q) z) y.2 in
       let t = passes (any_shorter a b c n) too_short e.taken e (λ y z. omega (arith, z)) r.2 in
       let v : ((n ≤ a) × (n ≤ b)) × (n ≤ c) = says (search reads) t.0 in
       record {

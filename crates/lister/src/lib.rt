@@ -1,4 +1,6 @@
 // The window lister: the windows of a stream for one freshly reset device.
+#![tactic(auto)]
+
 ghost use Rattle.std.specs.Prelude.{◌≡◌, ◌+◌, ◌^◌, ◌≤◌, ◌<◌, length};
 ghost use Rattle.std.proofs.lemmas.List.Edits.{sets};
 ghost use Rattle.chain.specs.Paper.{done};

@@ -1,4 +1,6 @@
 // The listing program: mode byte, kind byte and a stream on standard input, the windows of the stream on standard output.
+#![tactic(auto)]
+
 mod text;
 
 use crate::text::{MOST_INPUT, MOST_TEXT, text};

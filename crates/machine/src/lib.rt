@@ -1,4 +1,6 @@
 // The byte machine: a stream taken byte by byte or slice by slice into a chain, as a write or as a check.
+#![tactic(auto)]
+
 mod bulk;
 mod run;
 

@@ -1,3 +1,5 @@
 // Windows and streams of one device, read and nothing written: one reading for the lister, the tidier and salvage.
+#![tactic(auto)]
+
 pub mod stream;
 pub mod window;

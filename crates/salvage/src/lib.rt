@@ -1,4 +1,6 @@
 // Salvage: the whole windows of a stream, be it accepted, refused or broken off, written as a sound stream, and a list of what was changed.
+#![tactic(auto)]
+
 ghost use Rattle.std.specs.Prelude.{◌≡◌, ◌≤◌, ◌<◌, eqb, length, take};
 ghost use Rattle.std.proofs.lemmas.List.Edits.{sets};
 ghost use Rattle.chain.specs.Paper.{done};

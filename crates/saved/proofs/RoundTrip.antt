@@ -5,7 +5,7 @@ use mathlib.Core.Logic.{◌⊎◌, inl, inr}
 use mathlib.Core.Path.{◌≡◌, refl, sym, ap, subst, ◌∙◌}
 use mathlib.Core.List.{List, [], ◌∷◌, ◌++◌}
 use native.Mathlib.Nat.{zero-add}
-use borrow.Author.Tests.{eqb-true, le-ltb, not_false}
+use borrow.Author.Tests.{eqb-true, le-ltb, not-false}
 use lib.ListN.{length, get_or, take, drop}
 use lib.Seq.{take_at}
 use lib.Dec.{eqb, lit<}
@@ -165,7 +165,7 @@ unfolding pick_up_number pick_up_of open_number
 saved_again c m n s out out' r w byte up h len room save =
     let num : pick_up_number c (length m) s ≡ done = sym (ap (λ (x : Made). x.number) up.made) ∙ h in
     let o = first-none (pick_up_rules c (length m) s) done tt num in
-    let ok : well_saved c s ≡ true = not_false (well_saved c s) o.1.1.1.0 in
+    let ok : well_saved c s ≡ true = not-false (well_saved c s) o.1.1.1.0 in
     let t = taken c s ok in
     let d : Chain = picked_up c s in
     let is : r.chain ≡ d = ap (λ (x : Made). x.chain) (up.made ∙ sym (pick-up-on c (length m) s num)) in

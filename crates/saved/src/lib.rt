@@ -1,4 +1,6 @@
 // The saved place of document 01, 27 bytes: an open run is written down, and picked up again in the same chain.
+#![tactic(auto)]
+
 ghost use Rattle.std.specs.Prelude.{◌≡◌, [], ◌∷◌, ◌+◌, ◌<◌, ◌≤◌, length, get_or};
 ghost use Rattle.std.proofs.lemmas.List.Edits.{sets};
 ghost use Rattle.chain.specs.Output.{over};

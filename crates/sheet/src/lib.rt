@@ -1,4 +1,6 @@
 // The load sheet: streams loaded one after another into one reset device, and exact figures of each and of all.
+#![tactic(auto)]
+
 mod bits;
 mod load;
 mod marks;

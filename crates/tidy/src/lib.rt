@@ -1,5 +1,7 @@
 // The tidier: one stream in mode 1 for one meaning. The windows' spans are put in order and joined, framed in the output, and the windows' data
 // is laid over them in the stream's order, so that the last one stays. Nothing as large as a device is kept.
+#![tactic(auto)]
+
 mod lay;
 mod sort;
 mod spans;

@@ -4,7 +4,7 @@ use mathlib.Core.Bool.{Bool, true, false, not, ◌&&◌, ◌||◌}
 use mathlib.Core.Path.{◌≡◌, refl, sym, ◌∙◌}
 use mathlib.Core.List.{List, [], ◌∷◌}
 use native.Mathlib.Omega.{arith}
-use borrow.Author.Tests.{ltb-false, leb-true, ltb-true, eqb-true, eqb-false, lt-ltb, le-ltb, le-leb, eq-eqb, ne_eqb, not_false}
+use borrow.Author.Tests.{ltb-false, leb-true, ltb-true, eqb-true, eqb-false, lt-ltb, le-ltb, le-leb, eq-eqb, ne_eqb, not-false}
 use lib.Dec.{eqb, ltb, leb}
 use lib.ListN.{length}
 use Rattle.chain.proofs.ByCases.{by_test}
@@ -48,7 +48,7 @@ within size (s ∷ ss) (e ∷ es) h =
     let a = none (not (ltb s size)) bad_start _ (λ q. omega (arith, q)) h in
     let b = none (ltb e s || not (ltb e size)) bad_end _ (λ q. omega (arith, q)) a.1 in
     let c = both_false (ltb e s) (not (ltb e size)) b.0 in
-    (ltb-false e s c.0, ltb-true e size (not_false (ltb e size) c.1), within size ss es b.1)
+    (ltb-false e s c.0, ltb-true e size (not-false (ltb e size) c.1), within size ss es b.1)
 
 pub within-done : (size : ℕ) (ss es : List ℕ) → Within size ss es → windows_number size ss es ≡ done
 unfolding windows_number
@@ -92,7 +92,7 @@ unfolding number_of
 accepted kind mode ss es len long room h =
     let a = none (eqb (size_of kind) 0) 1 _ (λ q. omega (arith, q)) h in
     let b = none (not (leb first_mode mode && leb mode two_preambles)) 2 _ (λ q. omega (arith, q)) a.1 in
-    let m = both_true (leb first_mode mode) (leb mode two_preambles) (not_false (leb first_mode mode && leb mode two_preambles) b.0) in
+    let m = both_true (leb first_mode mode) (leb mode two_preambles) (not-false (leb first_mode mode && leb mode two_preambles) b.0) in
     let c = none (not (eqb (length ss) (length es)) || ltb most_windows (length ss)) 13 _ (λ q. omega (arith, q)) b.1 in
     let t = both_false (not (eqb (length ss) (length es))) (ltb most_windows (length ss)) c.0 in
     let d = none (eqb (windows_number (size_of kind) ss es) bad_start) 11 _ (λ q. omega (arith, q)) c.1 in
@@ -103,7 +103,7 @@ accepted kind mode ss es len long room h =
       known = eqb-false (size_of kind) 0 a.0;
       least = leb-true first_mode mode m.0;
       most = leb-true mode two_preambles m.1;
-      same = eqb-true (length ss) (length es) (not_false (eqb (length ss) (length es)) t.0);
+      same = eqb-true (length ss) (length es) (not-false (eqb (length ss) (length es)) t.0);
       few = ltb-false most_windows (length ss) t.1;
       inside =
           within (size_of kind) ss es
@@ -111,7 +111,7 @@ accepted kind mode ss es len long room h =
           (λ _ _. refl) (λ p _. absurd (p refl)) (λ _ p. absurd (p refl))
           (eqb-false (windows_number (size_of kind) ss es) bad_start d.0)
           (eqb-false (windows_number (size_of kind) ss es) bad_end e.0));
-      all = eqb-true len (sum_of ss es) (not_false (eqb len (sum_of ss es)) f.0);
+      all = eqb-true len (sum_of ss es) (not-false (eqb len (sum_of ss es)) f.0);
       fits = ltb-false room long g.0;
     }
 

@@ -1,12 +1,12 @@
 -- Window by window: 11 and 12 are those of the first window that is not within the size. Assumes nothing.
 use Prim.Native.Nat.{ℕ, zero, suc, ◌≤◌, ◌<◌}
-use mathlib.Core.Bool.{Bool, true, false, not, ◌||◌, or_true}
+use mathlib.Core.Bool.{Bool, true, false, not, ◌||◌, or-true}
 use mathlib.Core.Path.{◌≡◌, refl}
 use mathlib.Core.List.{List, [], ◌∷◌}
 use mathlib.Core.Logic.{◌⊎◌, inl, inr, ⊎_elim}
 use native.Mathlib.Omega.{arith}
 use native.Mathlib.Nat.{le_of_suc-le-suc, not-suc-le-zero}
-use borrow.Author.Tests.{ltb-true, ltb-false, lt-ltb, le-ltb, not_true, not_false}
+use borrow.Author.Tests.{ltb-true, ltb-false, lt-ltb, le-ltb, not-true, not-false}
 use lib.Dec.{ltb}
 use lib.ListN.{length, take, get_or}
 use Rattle.chain.proofs.ByCases.{by_test}
@@ -55,11 +55,11 @@ first size (s ∷ ss) (e ∷ es) =
     by_test (ltb e s || not (ltb e size))
     (λ q. simp (p, q)
     (end 0 (none size s e ss es) (ltb-true s size p)
-    (⊎_elim (λ t. inl (ltb-true e s t)) (λ t. inr (ltb-false e size (not_true (ltb e size) t))) (either_true (ltb e s) (not (ltb e size)) q))))
+    (⊎_elim (λ t. inl (ltb-true e s t)) (λ t. inr (ltb-false e size (not-true (ltb e size) t))) (either_true (ltb e s) (not (ltb e size)) q))))
     (λ q.
     let t = both_false (ltb e s) (not (ltb e size)) q in
     simp (p, q)
-    (next size s e ss es (windows_number size ss es) (ltb-false e s t.0) (ltb-true e size (not_false (ltb e size) t.1)) (first size ss es))))
+    (next size s e ss es (windows_number size ss es) (ltb-false e s t.0) (ltb-true e size (not-false (ltb e size) t.1)) (first size ss es))))
     (λ p. simp p (start 0 (none size s e ss es) (ltb-false s size p)))
 
 -- and no other number is
@@ -81,7 +81,7 @@ unfolding windows_number
 end-first size [] es i u h g = absurd (not-suc-le-zero u.started)
 end-first size (s ∷ ss) [] i u h g = absurd (not-suc-le-zero u.ended)
 end-first size (s ∷ ss) (e ∷ es) zero u h (inl g) = simp (lt-ltb s size h, lt-ltb e s g)
-end-first size (s ∷ ss) (e ∷ es) zero u h (inr g) = simp (lt-ltb s size h, le-ltb e size g, or_true)
+end-first size (s ∷ ss) (e ∷ es) zero u h (inr g) = simp (lt-ltb s size h, le-ltb e size g, or-true)
 end-first size (s ∷ ss) (e ∷ es) (suc i) u h g =
     skip size s e ss es bad_end (u.before.0, u.before.1) (end-first size ss es i (less size s e ss es i u) h g)
 

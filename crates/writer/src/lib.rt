@@ -1,4 +1,6 @@
 // The stream writer for one device. All is tested, and the length worked out, before a byte is written.
+#![tactic(auto)]
+
 mod blocks;
 mod put;
 mod refusal;

@@ -4,7 +4,7 @@ use mathlib.Core.Bool.{Bool, true, false, not, ◌&&◌, ◌||◌, and-false}
 use mathlib.Core.Path.{◌≡◌, refl, sym}
 use native.Mathlib.Nat.{mul-mod_left, mod-eq_of_lt}
 use native.Mathlib.Omega.{arith}
-use borrow.Author.Tests.{eq-eqb, ne_eqb, lt-ltb, le-leb, eqb-true, eqb-false, ltb-true, leb-false, not_false}
+use borrow.Author.Tests.{eq-eqb, ne_eqb, lt-ltb, le-leb, eqb-true, eqb-false, ltb-true, leb-false, not-false}
 use lib.Dec.{eqb, ltb, leb, lit<, lit≤}
 use lib.ListN.{length}
 use lib.Seq.{get_or-set_same, drop-set-lt}
@@ -60,7 +60,7 @@ module _ (c : Chain) (p : Place) (b : ℕ) where
   keeps_0 h n =
       by_test (eqb p.mode two_preambles) (λ e. rw e h)
       (λ e.
-      let q : eqb b preamble ≡ true = not_false (eqb b preamble) (no_rule (at at_preamble) b n no_preamble) in
+      let q : eqb b preamble ≡ true = not-false (eqb b preamble) (no_rule (at at_preamble) b n no_preamble) in
       let g = begins_clear (at at_preamble) b n (rw (q, e)) in
       let d : eqb p.device 0 ≡ true = eq-eqb p.device 0 ((good at_preamble h).first-device (lit≤ tt, lit≤ tt)) in
       rw (e, g.0, g.1) (rw d at h))
@@ -68,7 +68,7 @@ module _ (c : Chain) (p : Place) (b : ℕ) where
   keeps_1 : Keeps at_second
   unfolding is_well_formed registers_of advance_of
   keeps_1 h n =
-      let q : eqb b preamble ≡ true = not_false (eqb b preamble) (no_rule (at at_second) b n no_preamble) in
+      let q : eqb b preamble ≡ true = not-false (eqb b preamble) (no_rule (at at_second) b n no_preamble) in
       let g = begins_clear (at at_second) b n (rw q) in
       let f = good at_second h in
       rw (g.0, g.1) (rw (eq-eqb p.device 0 (f.first-device (lit≤ tt, lit≤ tt)), eq-eqb p.mode two_preambles (f.second_in_6 refl)) at h)
@@ -126,7 +126,7 @@ module _ (c : Chain) (p : Place) (b : ℕ) where
   unfolding is_well_formed registers_of advance_of
   keeps_9 h n =
       let z = (good at_start_low h).at_9 refl in
-      let l : ltb (with_low p.start b) (size_at c p.device) ≡ true = not_false _ (no_rule (at at_start_low) b n bad_start) in
+      let l : ltb (with_low p.start b) (size_at c p.device) ≡ true = not-false _ (no_rule (at at_start_low) b n bad_start) in
       rw (l, z.1, z.2) (rw (z.0, z.1, z.2) at h)
 
   keeps_10 : Keeps at_end
@@ -165,7 +165,7 @@ module _ (c : Chain) (p : Place) (b : ℕ) where
   keeps_13 few h n =
       let f = good at_check h in
       let no = no_rule (at at_check) b n in
-      let q : eqb b preamble ≡ true = not_false (eqb b preamble) (rw (no done) at (no bad_check_byte)) in
+      let q : eqb b preamble ≡ true = not-false (eqb b preamble) (rw (no done) at (no bad_check_byte)) in
       let g = begins_clear (at at_check) b n (rw q) in
       let last : p.device + 1 < c.count = leb-false c.count (p.device + 1) (rw q at (no last_device)) in
       let d : ltb ((p.device + 1) % 2 ^ 8) c.count ≡ true = rw (mod-eq_of_lt {n = p.device + 1} {m = 2 ^ 8} (omega arith)) (lt-ltb (p.device + 1) c.count last) in

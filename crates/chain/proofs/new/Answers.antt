@@ -1,0 +1,10 @@
+use Rattle.chain.specs.Calls.{new_of, chain_number}
+use Rattle.chain.proofs.new.Goals as goal
+
+pub returns-then-bad_chain : goal.returns-then-bad_chain
+unfolding new_of chain_number
+returns-then-bad_chain c = record { made = simp (c.no_chain-none.ensures, ← c.bad_chain.ensures, c.if-bad_chain.true) }
+
+pub returns : goal.returns
+unfolding new_of chain_number
+returns c = record { made = simp (c.fresh-chain.ensures, ← c.bad_chain.ensures, c.if-bad_chain.false) }
