@@ -1,5 +1,5 @@
-// The C interface: each call under its C name, by value, with the call's own promise; and three calls that update the chain where the
-// caller keeps it.
+// The calls as C has them: each under its C name, by value, with the call's own promise; and three calls that update the chain where the
+// caller keeps it. Crate `at6000_c` exports them.
 #![tactic(auto)]
 
 ghost use Rattle.std.specs.Prelude.{◌≡◌};
@@ -24,79 +24,68 @@ use machine::{Answer, Fed};
 use salvage::Salvaged;
 use sheet::Sheet;
 
-#[unsafe(no_mangle)]
-pub extern "C" fn at6000_new(count: u8, kinds: &[u8; 8], mem: &[u8]) -> Made
+pub fn at6000_new(count: u8, kinds: &[u8; 8], mem: &[u8]) -> Made
     ensures { New count kinds.now mem.now result }
 {
     let ks = *kinds;
     chain::new(count, ks, mem)
 }
 
-#[unsafe(no_mangle)]
-pub extern "C" fn at6000_reset(c: Chain, mem: &mut [u8]) -> Made
+pub fn at6000_reset(c: Chain, mem: &mut [u8]) -> Made
     ensures { Reset c mem.old result mem.new }
 {
     chain::reset(c, mem)
 }
 
-#[unsafe(no_mangle)]
-pub extern "C" fn at6000_start(c: Chain, mem: &[u8], mode: u8, check: u8) -> Made
+pub fn at6000_start(c: Chain, mem: &[u8], mode: u8, check: u8) -> Made
     ensures { Start c mem.now mode check result }
 {
     machine::start(c, mem, mode, check)
 }
 
-#[unsafe(no_mangle)]
-pub extern "C" fn at6000_byte(c: Chain, mem: &mut [u8], b: u8) -> Fed
+pub fn at6000_byte(c: Chain, mem: &mut [u8], b: u8) -> Fed
     ensures { Byte c mem.old b result mem.new }
 {
     machine::byte(c, mem, b)
 }
 
-#[unsafe(no_mangle)]
-pub extern "C" fn at6000_slice(c: Chain, mem: &mut [u8], s: &[u8]) -> Fed
+pub fn at6000_slice(c: Chain, mem: &mut [u8], s: &[u8]) -> Fed
     ensures { Slice c mem.old s.now result mem.new }
 {
     machine::slice(c, mem, s)
 }
 
-#[unsafe(no_mangle)]
-pub extern "C" fn at6000_drop(c: Chain, mem: &[u8]) -> Made
+pub fn at6000_drop(c: Chain, mem: &[u8]) -> Made
     ensures { Drop c mem.now result }
 {
     machine::drop(c, mem)
 }
 
-#[unsafe(no_mangle)]
-pub extern "C" fn at6000_closing(c: Chain, mem: &[u8], out: &mut [u8]) -> Written
+pub fn at6000_closing(c: Chain, mem: &[u8], out: &mut [u8]) -> Written
     ensures { Closing c mem.now out.old result out.new }
 {
     closing::closing(c, mem, out)
 }
 
-#[unsafe(no_mangle)]
-pub extern "C" fn at6000_save(c: Chain, mem: &[u8], out: &mut [u8]) -> Written
+pub fn at6000_save(c: Chain, mem: &[u8], out: &mut [u8]) -> Written
     ensures { Save c mem.now out.old result out.new }
 {
     saved::save(c, mem, out)
 }
 
-#[unsafe(no_mangle)]
-pub extern "C" fn at6000_pick_up(c: Chain, mem: &[u8], saved: &[u8]) -> Made
+pub fn at6000_pick_up(c: Chain, mem: &[u8], saved: &[u8]) -> Made
     ensures { PickUp c mem.now saved.now result }
 {
     saved::pick_up(c, mem, saved)
 }
 
-#[unsafe(no_mangle)]
-pub extern "C" fn at6000_hunt(s: &[u8], out: &mut [u8]) -> Hunted
+pub fn at6000_hunt(s: &[u8], out: &mut [u8]) -> Hunted
     ensures { Hunt s.now out.old result out.new }
 {
     hunt::hunt(s, out)
 }
 
-#[unsafe(no_mangle)]
-pub extern "C" fn at6000_write(
+pub fn at6000_write(
     kind: u8,
     mode: u8,
     control: u8,
@@ -112,8 +101,7 @@ pub extern "C" fn at6000_write(
     writer::write(kind, mode, control, a, starts, ends, cells, out)
 }
 
-#[unsafe(no_mangle)]
-pub extern "C" fn at6000_list(
+pub fn at6000_list(
     kind: u8,
     mode: u8,
     s: &[u8],
@@ -126,42 +114,31 @@ pub extern "C" fn at6000_list(
     lister::list(kind, mode, s, starts, ends, offsets)
 }
 
-#[unsafe(no_mangle)]
-pub extern "C" fn at6000_tidy(kind: u8, s: &[u8], out: &mut [u8]) -> Written
+pub fn at6000_tidy(kind: u8, s: &[u8], out: &mut [u8]) -> Written
     ensures { Tidies kind s.now out.old result out.new }
 {
     tidy::tidy(kind, s, out)
 }
 
-#[unsafe(no_mangle)]
-pub extern "C" fn at6000_salvage(kind: u8, s: &[u8], out: &mut [u8]) -> Salvaged
+pub fn at6000_salvage(kind: u8, s: &[u8], out: &mut [u8]) -> Salvaged
     ensures { Salvages kind s.now out.old result out.new }
 {
     salvage::salvage(kind, s, out)
 }
 
-#[unsafe(no_mangle)]
-pub extern "C" fn at6000_fetcher_new(mode: u8) -> Fetcher
+pub fn at6000_fetcher_new(mode: u8) -> Fetcher
     ensures { FetcherNew mode result }
 {
     eprom::fetcher_new(mode)
 }
 
-#[unsafe(no_mangle)]
-pub extern "C" fn at6000_fetch(
-    c: Chain,
-    f: Fetcher,
-    mem: &mut [u8],
-    eprom: &[u8],
-    n: usize,
-) -> Fetched
+pub fn at6000_fetch(c: Chain, f: Fetcher, mem: &mut [u8], eprom: &[u8], n: usize) -> Fetched
     ensures { Fetch c f mem.old eprom.now n result mem.new }
 {
     eprom::fetch(c, f, mem, eprom, n)
 }
 
-#[unsafe(no_mangle)]
-pub extern "C" fn at6000_load_sheet(
+pub fn at6000_load_sheet(
     kind: u8,
     mode: u8,
     streams: &[u8],
@@ -176,8 +153,7 @@ pub extern "C" fn at6000_load_sheet(
 }
 
 // For a controller's main loop. Each in-place call is its call by value, with the chain stored back and the answer handed on.
-#[unsafe(no_mangle)]
-pub extern "C" fn at6000_start_in(c: &mut Chain, mem: &[u8], mode: u8, check: u8) -> u8
+pub fn at6000_start_in(c: &mut Chain, mem: &[u8], mode: u8, check: u8) -> u8
     ensures { StartIn c.old mem.now mode check c.new result }
 {
     let f = machine::start(*c, mem, mode, check);
@@ -185,8 +161,7 @@ pub extern "C" fn at6000_start_in(c: &mut Chain, mem: &[u8], mode: u8, check: u8
     f.number
 }
 
-#[unsafe(no_mangle)]
-pub extern "C" fn at6000_slice_in(c: &mut Chain, mem: &mut [u8], s: &[u8]) -> Answer
+pub fn at6000_slice_in(c: &mut Chain, mem: &mut [u8], s: &[u8]) -> Answer
     ensures { SliceIn c.old mem.old s.now c.new result mem.new }
 {
     let f = machine::slice(*c, mem, s);
@@ -194,8 +169,7 @@ pub extern "C" fn at6000_slice_in(c: &mut Chain, mem: &mut [u8], s: &[u8]) -> An
     f.answer
 }
 
-#[unsafe(no_mangle)]
-pub extern "C" fn at6000_pick_up_in(c: &mut Chain, mem: &[u8], saved: &[u8]) -> u8
+pub fn at6000_pick_up_in(c: &mut Chain, mem: &[u8], saved: &[u8]) -> u8
     ensures { PickUpIn c.old mem.now saved.now c.new result }
 {
     let f = saved::pick_up(*c, mem, saved);
