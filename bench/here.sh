@@ -2,14 +2,18 @@
 # here.sh ROOM: writes ROOM/library.o and ROOM/by_pointer.o for this processor, from the LLVM module that the archive is made of. The kit
 # compiles that module for x86-64 alone and keeps no copy: it is caught by a stand-in for the kit's compiler, which hands on every word.
 # The calls and by_pointer.c both go through x86-64's rules for C first, so that they agree on how a struct is passed; `sret` goes away,
-# since the kit spells that pointer out.
+# since the kit spells that pointer out. It needs a kit with a folder on/ for this processor, which takes its tools from the folder RATTLE_HOME.
 set -eu
 room=$1
 here=$(cd "$(dirname "$0")" && pwd)
 guide=$(rt doc)
-kit=${guide%/docs/*}
+kit=${guide%/*}
 machine=$(uname -m)
 clang=$kit/on/$machine/toolchain/bin/clang
+[ -x "$clang" ] || {
+    echo "here.sh: no $clang: this kit makes nothing for $machine" >&2
+    exit 2
+}
 
 mkdir -p "$room/kit/on/$machine/toolchain/bin"
 for f in "$kit"/*; do [ "${f##*/}" = on ] || ln -s "$f" "$room/kit/"; done
@@ -22,7 +26,7 @@ for word in "\$@"; do case \$word in *module.bc) cp "\$word" "$room/module.bc" ;
 exec "$clang" "\$@"
 STAND
 chmod +x "$room/kit/on/$machine/toolchain/bin/clang"
-(cd "$here/.." && RATTLE_HOME=$room/kit rt staticlib at6000) >"$room/log" 2>&1 || { cat "$room/log"; exit 1; }
+(cd "$here/../crates/at6000_c" && RATTLE_HOME=$room/kit rt lib) >"$room/log" 2>&1 || { cat "$room/log"; exit 1; }
 
 x86="--target=x86_64-unknown-linux-gnu"
 "$clang" $x86 -O0 -Xclang -disable-llvm-passes -S -emit-llvm -x ir "$room/module.bc" -o "$room/library.ll"

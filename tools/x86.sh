@@ -1,6 +1,7 @@
 #!/bin/sh
 # Programs here are for x86-64. This builds C programs for it, and runs them; on another processor the compiler, the linker and the emulator
-# of the kit that the command rt belongs to do both, with the headers that gcc has here.
+# of the kit that the command rt belongs to do both, with the headers that gcc has here. They are in the kit's folder on/ for that processor:
+# a kit for x86-64 alone has none.
 #   x86.sh cc OUT SOURCE ARCHIVE [FLAGS]    compiles SOURCE, with include/ and FLAGS, and links it with ARCHIVE to the program OUT
 #   x86.sh run PROGRAM [WORDS]              runs PROGRAM
 set -eu
@@ -18,7 +19,11 @@ if [ "$(uname -m)" = x86_64 ]; then
     esac
 else
     guide=$(rt doc)
-    tools=${guide%/docs/*}/on/$(uname -m)/toolchain
+    tools=${guide%/*}/on/$(uname -m)/toolchain
+    [ -d "$tools" ] || {
+        echo "x86.sh: no $tools: this kit neither builds nor runs programs for x86-64 on $(uname -m)" >&2
+        exit 2
+    }
     lib=$tools/lib
     loader=$lib/ld-linux-x86-64.so.2
     case $verb in
