@@ -6,9 +6,8 @@ use Rattle.machine.proofs.slice.Goals as goal
 pub returns-then-n-eq-DONE : goal.returns-then-n-eq-DONE
 unfolding slice_of slice_memory
 returns-then-n-eq-DONE c =
-    let t = (c.taken.ensures.value, c.taken.ensures.mem_after) in
     let n = c.feed_number-n.ensures in
-    record { fed = t.value ∙ simp (← n) (search tests); memory = t.mem_after ∙ simp (← n) (search tests) }
+    record { fed = c.taken.ensures.value ∙ simp (← n) (search tests); memory = c.taken.ensures.mem_after ∙ simp (← n) (search tests) }
 
 pub returns : goal.returns
 unfolding slice_of slice_memory

@@ -19,7 +19,7 @@ overflow_add-j c =
     let f = c.rest-f in
     let g = c.windows-g in
     let h : f.result.used + g.result.used ≤ length s = within s f.result.used g.result.used (rw (lent-rest s 0) at f.ensures.used_in_bounds) g.ensures.used_in_bounds in
-    omega (arith, h, c.well-formed)
+    omega (arith, h, c.well_formed)
 
 pub cut-h-requires : goal.cut-h-requires
 cut-h-requires c =
@@ -42,7 +42,7 @@ overflow_add-used c =
     let k = c.cut-h in
     let j = within s f.result.used g.result.used (rw (lent-rest s 0) at f.ensures.used_in_bounds) g.ensures.used_in_bounds in
     let h : f.result.used + g.result.used + k.result.used ≤ length s = within s (f.result.used + g.result.used) k.result.used j k.ensures.used_in_bounds in
-    omega (arith, h, c.well-formed)
+    omega (arith, h, c.well_formed)
 
 pub returns : goal.returns
 returns c =

@@ -17,7 +17,7 @@ overflow_add-used c =
     let s = c.args.s.now in
     let f = c.rest-f in
     let h : 5 + f.result.used ≤ length s = within s 5 f.result.used c.if-s-lt5.false f.ensures.used_in_bounds in
-    omega (arith, h, c.well-formed)
+    omega (arith, h, c.well_formed)
 
 pub returns-then-fits : goal.returns-then-fits
 returns-then-fits c =
@@ -30,7 +30,7 @@ returns-then-fits c =
       used_in_bounds = within s 5 f.result.used c.if-s-lt5.false f.ensures.used_in_bounds;
       s_value = run_part a.c a.mem.now s 0 5 _
           (header_part a.c a.mem.now s 0 start.result end.result (search rules) c.if-c-ne-AT_NULL.false start.ensures end.ensures
-          (ap (λ (x : ℕ). fits_of x start.result end.result) (sym c.requires.2) ∙ sym c.fits2.ensures ∙ c.if-fits.true))
+          (ap (λ (x : ℕ). fits_of x start.result end.result) (sym c.requires.2) ∙ sym c.fits.ensures ∙ c.if-fits.true))
           ∙ ap (λ (x : Chain). run_of (run x a.mem.now more) (drop 5 s)) (sym h.ensures)
           ∙ run-rest h.result a.mem.now s 5 f.result.used _ f.ensures.s_value;
     }

@@ -24,4 +24,4 @@ pub returns-then-k-gt0 : goal.returns-then-k-gt0
 returns-then-k-gt0 c =
     let a = c.args in
     let f = c.bulk-d in
-    (c.span-k.ensures.given, (run-front a.c a.mem.now a.s.now c.span-k.result _ f.ensures.t_value, f.ensures.kinds_value))
+    record { used_in_bounds = c.span-k.ensures.given; s_value = run-front a.c a.mem.now a.s.now c.span-k.result _ f.ensures.t_value; kinds_value = f.ensures.kinds_value }

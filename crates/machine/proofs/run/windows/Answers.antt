@@ -14,19 +14,16 @@ loop-i-init c = (search rules, refl, refl, refl, refl)
 
 -- what a turn has found holds at each return
 pub returns-then-d-ne-AT_NULL : goal.returns-then-d-ne-AT_NULL
-returns-then-d-ne-AT_NULL c = let l = c.loop-i in (l.invariant.0, (l.invariant.2, (l.invariant.3, l.invariant.4)))
+returns-then-d-ne-AT_NULL c = let l = c.loop-i in record { used_in_bounds = l.invariant.0; s_value = l.invariant.2; kinds_value = (l.invariant.3, l.invariant.4) }
 
 pub returns-then-n-i-lt5 : goal.returns-then-n-i-lt5
-returns-then-n-i-lt5 c = let l = c.loop-i in (l.invariant.0, (l.invariant.2, (l.invariant.3, l.invariant.4)))
+returns-then-n-i-lt5 c = let l = c.loop-i in record { used_in_bounds = l.invariant.0; s_value = l.invariant.2; kinds_value = (l.invariant.3, l.invariant.4) }
 
 pub returns-then-not-fits : goal.returns-then-not-fits
-returns-then-not-fits c = let l = c.loop-i in (l.invariant.0, (l.invariant.2, (l.invariant.3, l.invariant.4)))
+returns-then-not-fits c = let l = c.loop-i in record { used_in_bounds = l.invariant.0; s_value = l.invariant.2; kinds_value = (l.invariant.3, l.invariant.4) }
 
 pub returns-then-n-f : goal.returns-then-n-f
-returns-then-n-f c = let l = c.loop-i in (l.invariant.0, (l.invariant.2, (l.invariant.3, l.invariant.4)))
-
-pub overflow_add-base-in-loop-i : goal.overflow_add-base-in-loop-i
-overflow_add-base-in-loop-i c = add-bulk c
+returns-then-n-f c = let l = c.loop-i in record { used_in_bounds = l.invariant.0; s_value = l.invariant.2; kinds_value = (l.invariant.3, l.invariant.4) }
 
 pub bulk-g-requires : goal.bulk-g-requires
 unfolding address_of
@@ -40,7 +37,7 @@ bulk-g-requires c =
     let room = c.if-mem-base.false in
     let whole = c.if-n-f.false in
     let five = c.if-n-i-lt5.false in
-    let t = fits_true c.args.size start end (sym c.fits2.ensures ∙ not-false _ c.if-not-fits.false) in
+    let t = fits_true c.args.size start end (sym c.fits.ensures ∙ c.if-not-fits.false) in
     let z : length (take (l.i + 5 + w.result - (l.i + 5)) (drop (l.i + 5) s)) ≡ w.result = part_length s (l.i + 5) w.result (omega (arith, whole, five, w.ensures.0)) in
     let e : c.headed-h.result.place.end ≡ end = ap (λ (x : Chain). x.place.end) h in
     let g : c.headed-h.result.place.next ≡ start = ap (λ (x : Chain). x.place.next) h in (
@@ -69,7 +66,7 @@ loop-i-preserved c =
       l.invariant.2
           ∙ run_part l.d l.mem s l.i 5 _
           (header_part l.d l.mem s l.i start.result end.result (omega (arith, five)) c.if-d-ne-AT_NULL.false start.ensures end.ensures
-          (ap (λ (x : ℕ). fits_of x start.result end.result) (sym size) ∙ sym c.fits2.ensures ∙ not-false _ c.if-not-fits.false))
+          (ap (λ (x : ℕ). fits_of x start.result end.result) (sym size) ∙ sym c.fits.ensures ∙ c.if-not-fits.false))
           ∙ ap (λ (x : Chain). run_of (run x l.mem more) (drop (l.i + 5) s)) (sym h.ensures)
           ∙ run_part h.result l.mem s (l.i + 5) w.result _ f.ensures.t_value,
       f.ensures.kinds_value.0 ∙ ap (λ (x : Chain). x.kinds) h.ensures ∙ l.invariant.3,
@@ -77,4 +74,4 @@ loop-i-preserved c =
     )
 
 pub returns : goal.returns
-returns c = let l = c.loop-i in (l.invariant.0, (l.invariant.2, (l.invariant.3, l.invariant.4)))
+returns c = let l = c.loop-i in record { used_in_bounds = l.invariant.0; s_value = l.invariant.2; kinds_value = (l.invariant.3, l.invariant.4) }
