@@ -2,7 +2,7 @@
 """Every place of the code that the documents cite is there, and every must-fail edit is cited. Run at the root.
 
 A place is named as docs/READING.md says: `crate/File: name, name` a definition, `crate/proofs/File: name` a law, `crate/must-fail/edit` an edit,
-`crate::module::function` a function, `crate/specs/File.antt` or `crate/src/file.rt` a file.
+`crate::module::function` a function, `crate/specs/File.antt` or `crate/src/file.rt` a file, `crate/proofs/name` a file or a folder of proofs.
 """
 import glob
 import os
@@ -35,6 +35,9 @@ def missing(cited):
     m = re.fullmatch(r"\w+/((?:specs|proofs|src)/[\w/]+\.(?:antt|rt))", cited)
     if m:
         return None if os.path.exists(f"crates/{cited}") else "no such file"
+    m = re.fullmatch(r"\w+/proofs/[\w/]+", cited)
+    if m:
+        return None if os.path.isdir(f"crates/{cited}") or os.path.exists(f"crates/{cited}.antt") else "no such file or folder"
     m = re.fullmatch(r"\w+/(proofs/)?([\w/]+): (.+)", cited)
     if m:
         path = f"crates/{crate}/{m.group(1) or 'specs/'}{m.group(2)}.antt"
