@@ -52,7 +52,7 @@ def snake(part):
 
 
 def declared():
-    words, lemmas = set(), set()
+    words, lemmas, labels = set(), set(), set()
     for p in files():
         if not p.endswith(".antt") or os.path.basename(p) in ("Proof.antt", "Answers.antt", "Invariants.antt"):
             continue
@@ -60,14 +60,16 @@ def declared():
             m = DECL.match(line)
             if m and m["name"] not in ("use", "mod", "where") and not line.startswith("use "):
                 (words if "abbrev" in m["head"] or "unfoldable" in m["head"] else lemmas).add(m["name"])
+                if line[0] == " " and "/specs/" in p:
+                    labels.add(m["name"])
             m = HEAD.match(line)
             if m:
                 words.add(m["name"])
-    return words, lemmas
+    return words, lemmas, labels
 
 
 def table():
-    words, lemmas = declared()
+    words, lemmas, labels = declared()
     spelled = {w: "_".join(snake(x) for x in re.split(r"[·-]", w)) for w in words}
     known = set(spelled.values()) | LIBRARY
     for name in lemmas - words:
@@ -81,6 +83,8 @@ def table():
         for a, b in zip(chunks, chunks[1:]):
             out += ("-" if a in known and b in known else "_") + b
         spelled[name] = out
+    # a label of a type: a field, or a constructor
+    spelled.update({w: "_".join(snake(x) for x in re.split(r"[·-]", w)) for w in labels})
     return {o: n for o, n in spelled.items() if o != n}, words | lemmas
 
 

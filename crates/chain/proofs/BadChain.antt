@@ -110,13 +110,13 @@ module _ (count : ℕ) (ks : List ℕ) (len : ℕ) where
   bad_to : Bad → BadChain count ks len
   bad_to (inl (inl (inl h))) = BadChain.count_not_1_to_8 h
   bad_to (inl (inl (inr h))) = BadChain.unknown_kind h.0 h.1 h.2
-  bad_to (inl (inr h)) = BadChain.total-over_65536 h
+  bad_to (inl (inr h)) = BadChain.total_over_65536 h
   bad_to (inr h) = BadChain.memory_of_another_length (λ e. h (sym e))
 
   bad_from : BadChain count ks len → Bad
   bad_from (BadChain.count_not_1_to_8 h) = inl (inl (inl h))
   bad_from (BadChain.unknown_kind i l h) = inl (inl (inr (i, l, h)))
-  bad_from (BadChain.total-over_65536 h) = inl (inr h)
+  bad_from (BadChain.total_over_65536 h) = inl (inr h)
   bad_from (BadChain.memory_of_another_length h) = inr (λ e. h (sym e))
 
   -- number 1, spelled out

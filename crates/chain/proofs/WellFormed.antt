@@ -70,16 +70,16 @@ module _ (c : Chain) (g : List ℕ) (p : Place) where
       let row : (i : ℕ) → get_or rows i true ≡ true = each_row rows (all_each rows h) in
       record {
         mode_1_to_6 = says (search reads) (row 0);
-        write_or-check = says (search reads) (row 1);
+        write_or_check = says (search reads) (row 1);
         awaited_0_to_13 = says (search reads) (row 2);
         device_in_chain = says (search reads) (row 3);
         unused_registers = says (m_unused g c.count) (row 4);
         write_mismatches = says (search reads) (row 5);
-        first-device = says (search reads) (row 6);
+        first_device = says (search reads) (row 6);
         second_in_6 = says (search reads) (row 7);
-        control-before = says (search reads) (row 8);
-        control-taken = says (search reads) (row 9);
-        control-checked = says (search reads) (row 10);
+        control_before = says (search reads) (row 8);
+        control_taken = says (search reads) (row 9);
+        control_checked = says (search reads) (row 10);
         at_0_to_6_and_13 = says (search reads) (row 11);
         at_7_to_12 = says (search reads) (row 12);
         at_7_and_8 = says (search reads) (row 13);
@@ -96,16 +96,16 @@ module _ (c : Chain) (g : List ℕ) (p : Place) where
   of_formed f =
       each_all rows
       (said (search reads) f.mode_1_to_6
-      and said (search reads) f.write_or-check
+      and said (search reads) f.write_or_check
       and said (search reads) f.awaited_0_to_13
       and said (search reads) f.device_in_chain
       and said (m_unused g c.count) f.unused_registers
       and said (search reads) f.write_mismatches
-      and said (search reads) f.first-device
+      and said (search reads) f.first_device
       and said (search reads) f.second_in_6
-      and said (search reads) f.control-before
-      and said (search reads) f.control-taken
-      and said (search reads) f.control-checked
+      and said (search reads) f.control_before
+      and said (search reads) f.control_taken
+      and said (search reads) f.control_checked
       and said (search reads) f.at_0_to_6_and_13
       and said (search reads) f.at_7_to_12
       and said (search reads) f.at_7_and_8

@@ -22,7 +22,7 @@ Between a b x = (a ≤ x) × (x ≤ b)
 pub data BadChain (count : ℕ) (ks : List ℕ) (len : ℕ) : Type 0 where
   count_not_1_to_8 : (Between 1 most_devices count → ⊥) → BadChain count ks len
   unknown_kind : (i : ℕ) → i < count → (Known (get_or ks i 0) → ⊥) → BadChain count ks len
-  total-over_65536 : most_memory < base_of ks count → BadChain count ks len
+  total_over_65536 : most_memory < base_of ks count → BadChain count ks len
   memory_of_another_length : len ≢ base_of ks count → BadChain count ks len
 
 -- those past the first n are zero
@@ -40,18 +40,18 @@ place_register registers p = get_or registers p.device 0
 -- the place p, with these registers, is well formed in the chain c
 pub record WellFormed (c : Chain) (registers : List ℕ) (p : Place) : Type 0 where
   pub mode_1_to_6 : Between first_mode two_preambles p.mode
-  pub write_or-check : Between writing checking p.check
+  pub write_or_check : Between writing checking p.check
   pub awaited_0_to_13 : Between at_preamble at_check p.awaited
   pub device_in_chain : p.device < c.count
   pub unused_registers : UnusedZero registers c.count
   pub write_mismatches : p.check ≡ writing → p.mismatches ≡ 0
   -- awaited 0 and 1 only on device 0, 1 only in mode 6
-  pub first-device : Between at_preamble at_second p.awaited → p.device ≡ 0
+  pub first_device : Between at_preamble at_second p.awaited → p.device ≡ 0
   pub second_in_6 : p.awaited ≡ at_second → p.mode ≡ two_preambles
   -- control byte 0 before it is taken; after, equal to the stored register, and in a check with B3 clear
-  pub control-before : p.awaited ≤ at_control → p.control ≡ 0
-  pub control-taken : at_control < p.awaited → p.control ≡ place_register registers p
-  pub control-checked : (at_control < p.awaited) × (p.check ≡ checking) → Sets bit3 p.control → ⊥
+  pub control_before : p.awaited ≤ at_control → p.control ≡ 0
+  pub control_taken : at_control < p.awaited → p.control ≡ place_register registers p
+  pub control_checked : (at_control < p.awaited) × (p.check ≡ checking) → Sets bit3 p.control → ⊥
   -- by awaited byte
   pub at_0_to_6_and_13 : Between at_preamble at_count p.awaited ⊎ (p.awaited ≡ at_check)
       → (p.left ≡ 0) × (p.start ≡ 0) × (p.end ≡ 0) × (p.next ≡ 0)

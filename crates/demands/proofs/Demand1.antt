@@ -6,7 +6,7 @@ use Rattle.demands.proofs.Numbers.ByteNumbers.{byte_numbers}
 use Rattle.demands.proofs.Numbers.SliceTables.{slice_table_lem}
 use Rattle.demands.proofs.Numbers.HuntTables.{hunt_table_lem}
 use Rattle.demands.proofs.Numbers.WriteTables.{write_table_lem}
-use Rattle.demands.proofs.Numbers.ListTables.{list_table_lem, list-taken, list-refused}
+use Rattle.demands.proofs.Numbers.ListTables.{list_table_lem, list_taken, list-refused}
 use Rattle.demands.proofs.Numbers.TidyTables.{tidy_table_lem, tidy_refused}
 use Rattle.demands.proofs.Numbers.SalvageTables.{salvage_table_lem, salvage_refused}
 use Rattle.demands.proofs.Numbers.FetchTables.{fetch_numbers}
@@ -24,7 +24,7 @@ demand1 =
             reset = reset_table;
             start = start_table_lem;
             byte = byte_table_lem;
-            byte-own = byte_numbers;
+            byte_own = byte_numbers;
             slice = slice_table_lem;
             drop = drop-table;
             closing = closing_table_lem;
@@ -33,7 +33,7 @@ demand1 =
             hunt = hunt_table_lem;
             write = write_table_lem;
             list = list_table_lem;
-            list-taken = list-taken;
+            list_taken = list_taken;
             tidy = tidy_table_lem;
             salvage = salvage_table_lem;
             fetch = fetch_numbers;

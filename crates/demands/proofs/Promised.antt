@@ -45,7 +45,7 @@ hunt_ours s out r out' h = rw (h.answer, h.output)
 
 pub list-ours : (kind mode : ℕ) (s starts ends offsets : List ℕ) (r : Listed) (a b d : List ℕ) → Lists kind mode s starts ends offsets r a b d
     → ◌≡◌ {A = AfterList} (record { listed = r; starts = a; ends = b; offsets = d }) (ours.list kind mode s starts ends offsets)
-list-ours kind mode s starts ends offsets r a b d h = rw (h.answer, h.starts-left, h.ends-left, h.offsets-left)
+list-ours kind mode s starts ends offsets r a b d h = rw (h.answer, h.starts_left, h.ends_left, h.offsets_left)
 
 pub tidy_ours : (kind : ℕ) (s out : List ℕ) (r : Written) (out' : List ℕ) → Tidies kind s out r out'
     → ◌≡◌ {A = AfterWrite} (record { written = r; out = out' }) (ours.tidy kind s out)

@@ -29,7 +29,7 @@ found_where s out z =
       begins = rw d.0 ((makes s (found_at s)).says (found_begins s f));
       first = λ q h. (m-none (makes s q)).says (found_before s q (omega (arith, d.0)));
       bits = rw (d.0, d.1, d.2) l.0;
-      below-byte = rw d.1 l.1;
+      below_byte = rw d.1 l.1;
     }
 
 written_where : (s out : List ℕ) → (hunt_of s (length out)).number ≡ done
@@ -48,4 +48,4 @@ where_only s g h a b =
     let none : g.p < h.p → ⊥ = λ l. b.first g.p l a.begins in
     let one : h.p < g.p → ⊥ = λ l. a.first h.p l b.begins in
     let p : g.p ≡ h.p = omega (arith, none, one) in
-    (p, omega (arith, p, a.bits, b.bits, a.below-byte, b.below-byte), omega (arith, p, a.bits, b.bits, a.below-byte, b.below-byte))
+    (p, omega (arith, p, a.bits, b.bits, a.below_byte, b.below_byte), omega (arith, p, a.bits, b.bits, a.below_byte, b.below_byte))

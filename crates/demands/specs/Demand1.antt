@@ -33,7 +33,7 @@ pub record Numbers : Type 0 where
   pub reset : (c : Chain) (m : List ℕ) → Table (reset_of c (length m)).number (chain_table c.count c.kinds m) done
   pub start : (c : Chain) (m : List ℕ) (mode check : ℕ) → Table (start_of c (length m) mode check).number (start_table c m mode) done
   pub byte : (c : Chain) (m : List ℕ) (b : ℕ) → Table (slice_of c m (b ∷ [])).answer.number (byte_table c m b) more
-  pub byte-own : (c : Chain) (m : List ℕ) (b : ℕ) → Running c m → ByteNumbers (slice_number c m (b ∷ [])) c b
+  pub byte_own : (c : Chain) (m : List ℕ) (b : ℕ) → Running c m → ByteNumbers (slice_number c m (b ∷ [])) c b
   pub slice : (c : Chain) (m s : List ℕ) → Table (slice_of c m s).answer.number (slice_table c m s) more
   pub drop : (c : Chain) (m : List ℕ) → Table (drop_of c (length m)).number (open_table c m []) done
   pub closing : (c : Chain) (m out : List ℕ) → Table (closing_of c m (length out)).number (closing_table c m out) done
@@ -44,7 +44,7 @@ pub record Numbers : Type 0 where
       → Table (write_of kind mode control address starts ends bytes (length out)).number (write_table kind mode control address starts ends bytes out) done
   pub list : (kind mode : ℕ) (s : List ℕ) → Bytes s → (starts ends offsets : List ℕ)
       → Table (listed_of s (preamble_at mode) (listed kind mode s starts ends offsets)).number (list_table kind mode s starts ends offsets) done
-  pub list-taken : (kind mode : ℕ) (s : List ℕ) → Bytes s → (starts ends offsets : List ℕ)
+  pub list_taken : (kind mode : ℕ) (s : List ℕ) → Bytes s → (starts ends offsets : List ℕ)
       → ListTaken kind mode s (listed_of s (preamble_at mode) (listed kind mode s starts ends offsets)).taken
   pub tidy : (kind : ℕ) (s : List ℕ) → Bytes s → (out : List ℕ) → Table (tidy_of kind s (length out)).number (tidy_table kind s out) done
   pub salvage : (kind : ℕ) (s out : List ℕ) → Table (salvage_of kind s (length out)).number (salvage_table kind s out) done
@@ -63,8 +63,8 @@ pub record AsLent (c : Chain) (m s : List ℕ) : Type 0 where
 pub record Ended (c : Chain) (m : List ℕ) (taken mismatches : ℕ) (f : Fed) (m' : List ℕ) : Type 0 where
   pub chain : f.chain ≡ with_place c closed_place
   pub memory : m' ≡ m
-  pub taken-one_more : f.answer.taken ≡ (taken + 1) % 2 ^ 32
-  pub mismatches-kept : f.answer.mismatches ≡ mismatches % 2 ^ 32
+  pub taken_one_more : f.answer.taken ≡ (taken + 1) % 2 ^ 32
+  pub mismatches_kept : f.answer.mismatches ≡ mismatches % 2 ^ 32
 
 -- a slice that ends at its byte k; what earlier bytes stored stays
 abbrev pub EndedAt : Chain → List ℕ → List ℕ → ℕ → Type 0
@@ -81,9 +81,9 @@ pub record ListRefused (starts ends offsets : List ℕ) (r : Listed) (starts' en
   pub windows : r.windows ≡ 0
   pub control : r.control ≡ 0
   pub address : r.address ≡ 0 ∷ 0 ∷ 0 ∷ []
-  pub starts-kept : starts' ≡ starts
-  pub ends-kept : ends' ≡ ends
-  pub offsets-kept : offsets' ≡ offsets
+  pub starts_kept : starts' ≡ starts
+  pub ends_kept : ends' ≡ ends
+  pub offsets_kept : offsets' ≡ offsets
 
 -- a refused hunt: p, the bits left and the length are 0, and the output is as lent
 pub record HuntRefused (out : List ℕ) (h : Hunted) (out' : List ℕ) : Type 0 where

@@ -111,8 +111,8 @@ pub record FetchOn (e : List ℕ) (b a : AfterFetch) : Type 0 where
 pub record FetchEnded (e : List ℕ) (b a : AfterFetch) : Type 0 where
   pub chain : a.fetched.chain ≡ with_place b.fetched.chain closed_place
   pub memory : a.memory ≡ b.memory
-  pub taken-one_more : a.fetched.answer.taken ≡ (b.fetched.answer.taken + 1) % 2 ^ 32
-  pub mismatches-kept : a.fetched.answer.mismatches ≡ b.fetched.answer.mismatches % 2 ^ 32
+  pub taken_one_more : a.fetched.answer.taken ≡ (b.fetched.answer.taken + 1) % 2 ^ 32
+  pub mismatches_kept : a.fetched.answer.mismatches ≡ b.fetched.answer.mismatches % 2 ^ 32
   pub kept_nothing : a.fetched.fetcher ≡ fetcher_at a.fetched.fetcher.counter
   pub clear : B0 (kept_of b.fetched.chain.place b.fetched.fetcher (byte_next e b)).control ≡ false
       → a.fetched.fetcher.counter ≡ home_of b.fetched.chain.place.mode

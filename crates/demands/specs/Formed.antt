@@ -9,5 +9,5 @@ pub record WellSaved (c : Chain) (s : List ℕ) : Type 0 where
   pub length_27 : length s ≡ saved_length
   pub form_1 : get_or (held_in form1 s) 0 0 ≡ form1.number
   pub zero_bit : get_or (held_in form1 s) 5 0 ≡ 0
-  pub zero-byte : get_or (held_in form1 s) 7 0 ≡ 0
+  pub zero_byte : get_or (held_in form1 s) 7 0 ≡ 0
   pub place : WellFormed c (registers_in form1 s) (place_in form1 s)

@@ -106,7 +106,7 @@ pub record Idle (c : Chain) (m : List ℕ) : Type 0 where
   pub kinds : length c.kinds ≡ 8
   pub registers : length c.registers ≡ 8
   pub register_bytes : Bytes c.registers
-  pub memory-bytes : Bytes m
+  pub memory_bytes : Bytes m
   pub sound : state_number c (length m) ≡ done
   pub closed_place_lem : c.place.running ≡ closed
 
@@ -115,7 +115,7 @@ pub record Open (c : Chain) (m : List ℕ) : Type 0 where
   pub kinds : length c.kinds ≡ 8
   pub registers : length c.registers ≡ 8
   pub register_bytes : Bytes c.registers
-  pub memory-bytes : Bytes m
+  pub memory_bytes : Bytes m
   pub sound : feed_number c (length m) ≡ done
 
 pub record Mode (mode : ℕ) : Type 0 where

@@ -57,8 +57,8 @@ hunt_table s out =
 
 -- window i is there, and each before it lies within the size
 pub record Reached (size : ℕ) (starts ends : List ℕ) (i : ℕ) : Type 0 where
-  pub start-there : i < length starts
-  pub end-there : i < length ends
+  pub start_there : i < length starts
+  pub end_there : i < length ends
   pub within : (j : ℕ) → j < i → (get_or starts j 0 ≤ get_or ends j 0) × (get_or ends j 0 < size)
 
 -- the first window that is not within: its start not below the size

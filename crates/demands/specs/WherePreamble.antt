@@ -15,7 +15,7 @@ pub record Where (s : List ℕ) (h : Hunted) : Type 0 where
   pub begins : MakesPreamble s h.p
   pub first : (q : ℕ) → q < h.p → MakesPreamble s q → ⊥
   pub bits : 8 * length s ≡ h.p + 8 * h.length + h.left
-  pub below-byte : h.left < 8
+  pub below_byte : h.left < 8
 
 -- numbers as before; on 0 both figures, and the bytes from p on; on a refusal both are 0
 pub record SaysWhere (l : Loader) : Type 0 where

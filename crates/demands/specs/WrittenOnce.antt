@@ -15,7 +15,7 @@ use Rattle.demands.specs.Patches.{Device, Patch, windows_in, Sending, AsOne}
 -- a patch's file, which may go on after the patch, and three tables that have room for its windows
 pub record File {c : Chain} {mode : ℕ} {s : List ℕ} (p : Patch c mode s) : Type 0 where
   pub after : List ℕ
-  pub after-bytes : Bytes after
+  pub after_bytes : Bytes after
   pub starts : List ℕ
   pub ends : List ℕ
   pub offsets : List ℕ

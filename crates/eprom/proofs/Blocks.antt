@@ -119,7 +119,7 @@ module _ (c : Chain) (m : List ℕ) (f : Fetcher) (b : ℕ) where
       let q : further_of p₁.mode f₁.counter u ≡ further_of p.mode f.counter (suc u) =
       rw (mode_stays c m f b, z) (further_next p.mode f.counter u g.counter (omega (arith, y.most))) in
       let l : left_of p₁ f₁ u (kept_by p₁ f₁ (take u bs)) r ≡ left_of p f (suc u) kept r =
-      rw (k, w.no-jump-next, w.no_jump, q, mode_stays c m f b) in
+      rw (k, w.no_jump_next, w.no_jump, q, mode_stays c m f b) in
       record {
         used = suc u;
         some = omega arith;
@@ -159,7 +159,7 @@ took (b ∷ d ∷ bs) c m f g r a some few =
     let w = next c m f b g (d ∷ bs) (omega arith) r in
     took_more c m f b (d ∷ bs) g a n few w
     (took (d ∷ bs) (went_on c m b) (memory_of c m b) (onward c.place f b) (went_going c m f b g a n) w.free
-    (no_jump_right (went_on c m b).place (onward c.place f b) w.no-jump-next) (omega arith) (omega arith)))
+    (no_jump_right (went_on c m b).place (onward c.place f b) w.no_jump_next) (omega arith) (omega arith)))
     (λ e. took_last c m f b (d ∷ bs) a (eqb-false (number_of c b) more e))
 
 -- a block whose first byte goes astray: the rest is not looked at, and nothing is kept

@@ -67,7 +67,7 @@ module _ (c : Chain) (b : ℕ) where
     unfolding number_of
     sent_clear e w =
         let r : None (byte_rules c b) = first-none (byte_rules c b) more tt n in
-        let k = checked w s.formed.write_or-check.1 in
+        let k = checked w s.formed.write_or_check.1 in
         second (begins c b && B3 (register_begun c)) (B3 b) (rw (k, e) at r.1.1.1.1.1.0)
       where
         second : (x y : Bool) → (x || y) ≡ false → y ≡ false
@@ -83,7 +83,7 @@ module _ (c : Chain) (b : ℕ) where
         (let a = eqb-true c.place.awaited at_control f in
         record {
           b4 = said (search reads) (s.formed.at_2 a);
-          b3 = λ w. said (search reads) (s.formed.at_2_checked (a, checked w s.formed.write_or-check.1));
+          b3 = λ w. said (search reads) (s.formed.at_2_checked (a, checked w s.formed.write_or_check.1));
           sent_b3 = sent_clear f;
         }))
         (λ f. rw f tt)))

@@ -19,17 +19,17 @@ answer number windows taken = record { number = number; windows = windows; contr
 -- one window, 9 to 11, whose first data byte has offset 11; what lies past it in a table stays as lent
 pub case_A : Lists 0 1 stream_a (7 ∷ 8 ∷ []) (7 ∷ 8 ∷ []) (7 ∷ 8 ∷ []) (answer done 1 15) (9 ∷ 8 ∷ []) (11 ∷ 8 ∷ []) (11 ∷ 8 ∷ [])
 unfolding size_of window_stop read_window_of windows_stop windows_of preamble_at head_stop check_stop stream_stop list_stop listed_of listing_of
-case_A = record { answer = refl; starts-left = refl; ends-left = refl; offsets-left = refl }
+case_A = record { answer = refl; starts_left = refl; ends_left = refl; offsets_left = refl }
 
 -- mode 6 has one preamble more, and the offsets count from the second
 pub case_A_6 : Lists 0 6 (preamble ∷ stream_a) (7 ∷ []) (7 ∷ []) (7 ∷ []) (answer done 1 16) (9 ∷ []) (11 ∷ []) (11 ∷ [])
 unfolding size_of window_stop read_window_of windows_stop windows_of preamble_at head_stop check_stop stream_stop list_stop listed_of listing_of
-case_A_6 = record { answer = refl; starts-left = refl; ends-left = refl; offsets-left = refl }
+case_A_6 = record { answer = refl; starts_left = refl; ends_left = refl; offsets_left = refl }
 
 pub case_A-short : Lists 0 1 stream_a (7 ∷ []) [] (7 ∷ []) (answer too_short 0 15) (7 ∷ []) [] (7 ∷ [])
 unfolding size_of window_stop read_window_of windows_stop windows_of preamble_at head_stop check_stop stream_stop list_stop listed_of listing_of
-case_A-short = record { answer = refl; starts-left = refl; ends-left = refl; offsets-left = refl }
+case_A-short = record { answer = refl; starts_left = refl; ends_left = refl; offsets_left = refl }
 
 pub case_A-cut : Lists 0 1 (take 13 stream_a) (7 ∷ []) (7 ∷ []) (7 ∷ []) (answer more 0 13) (7 ∷ []) (7 ∷ []) (7 ∷ [])
 unfolding size_of window_stop read_window_of windows_stop windows_of preamble_at head_stop check_stop stream_stop list_stop listed_of listing_of
-case_A-cut = record { answer = refl; starts-left = refl; ends-left = refl; offsets-left = refl }
+case_A-cut = record { answer = refl; starts_left = refl; ends_left = refl; offsets_left = refl }

@@ -9,4 +9,4 @@ pub only_list : (kind mode : ℕ) (s starts ends offsets : List ℕ) (r q : List
     → Lists kind mode s starts ends offsets r a b c → Lists kind mode s starts ends offsets q x y z
     → (r ≡ q) × (a ≡ x) × (b ≡ y) × (c ≡ z)
 only_list kind mode s starts ends offsets r q a b c x y z f g =
-    (f.answer ∙ sym g.answer, f.starts-left ∙ sym g.starts-left, f.ends-left ∙ sym g.ends-left, f.offsets-left ∙ sym g.offsets-left)
+    (f.answer ∙ sym g.answer, f.starts_left ∙ sym g.starts_left, f.ends_left ∙ sym g.ends_left, f.offsets_left ∙ sym g.offsets_left)

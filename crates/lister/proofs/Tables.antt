@@ -119,7 +119,7 @@ module _ (kind mode : ℕ) (s starts ends offsets : List ℕ) (size p : ℕ) (e 
   pub lists_none : (r.number ≡ done → ⊥) → Lists kind mode s starts ends offsets r starts ends offsets
   lists_none h =
       let f = is_listing ∙ listing_none size s p e (λ z. h (number_is ∙ z)) in
-      record { answer = is_answer; starts-left = rw f; ends-left = rw f; offsets-left = rw f }
+      record { answer = is_answer; starts_left = rw f; ends_left = rw f; offsets_left = rw f }
 
   -- what filling the tables asks
   pub may_fill : p ≤ 1 → r.number ≡ done
@@ -142,9 +142,9 @@ module _ (kind mode : ℕ) (s starts ends offsets : List ℕ) (size p : ℕ) (e 
       ap (λ (n : ℕ). windows_of size s n (p + 6)) (windows_are h) ∙ sym (is_listing ∙ listing-all size s p e (sym number_is ∙ h)) in
       record {
         answer = is_answer;
-        starts-left = f.0 ∙ rw g;
-        ends-left = f.1.0 ∙ rw g;
-        offsets-left = f.1.1 ∙ rw (g, pa);
+        starts_left = f.0 ∙ rw g;
+        ends_left = f.1.0 ∙ rw g;
+        offsets_left = f.1.1 ∙ rw (g, pa);
       }
 
 -- ---- what the promise says of the tables: the windows listed, as many as are answered, and the rest as lent
@@ -178,9 +178,9 @@ module _ (kind mode : ℕ) (s starts ends offsets : List ℕ) where
       let n : length (listing kind mode s starts ends offsets) ≡ r.windows = f.0 ∙ sym (ap (λ (x : Listed). x.windows) l.answer) in
       record {
         count = n;
-        starts_are = l.starts-left ∙ front (λ (w : ReadWindow). w.start) starts f.1 ∙ rw n;
-        ends_are = l.ends-left ∙ front (λ (w : ReadWindow). w.end) ends f.2 ∙ rw n;
-        offsets_are = l.offsets-left ∙ front (λ (w : ReadWindow). w.first - preamble_at mode) offsets f.3 ∙ rw n;
+        starts_are = l.starts_left ∙ front (λ (w : ReadWindow). w.start) starts f.1 ∙ rw n;
+        ends_are = l.ends_left ∙ front (λ (w : ReadWindow). w.end) ends f.2 ∙ rw n;
+        offsets_are = l.offsets_left ∙ front (λ (w : ReadWindow). w.first - preamble_at mode) offsets f.3 ∙ rw n;
       }
     where
       front : (g : ReadWindow → ℕ) (old : List ℕ) → length (listing kind mode s starts ends offsets) ≤ length old

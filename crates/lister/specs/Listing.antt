@@ -62,6 +62,6 @@ module _ (kind mode : ℕ) (s starts ends offsets : List ℕ) where
 
   pub record Lists (r : Listed) (starts' ends' offsets' : List ℕ) : Type 0 where
     pub answer : r ≡ listed_of s (preamble_at mode) listed
-    pub starts-left : starts' ≡ sets starts 0 (starts_of listing)
-    pub ends-left : ends' ≡ sets ends 0 (ends_of listing)
-    pub offsets-left : offsets' ≡ sets offsets 0 (offsets_of (preamble_at mode) listing)
+    pub starts_left : starts' ≡ sets starts 0 (starts_of listing)
+    pub ends_left : ends' ≡ sets ends 0 (ends_of listing)
+    pub offsets_left : offsets' ≡ sets offsets 0 (offsets_of (preamble_at mode) listing)

@@ -22,7 +22,7 @@ module _ (c : Chain) (len : ℕ) (g : List ℕ) (p : Place) (h : is_bad_chain c.
       let n = ((m_fits c.count c.kinds len).says h).few in
       record {
         mode = omega (arith, f.mode_1_to_6);
-        check = omega (arith, f.write_or-check);
+        check = omega (arith, f.write_or_check);
         device = omega (arith, f.device_in_chain, n);
         awaited = omega (arith, f.awaited_0_to_13);
       }

@@ -94,8 +94,8 @@ stores_short c bs =
 
 module _ (c : Chain) (m bs : List ℕ) where
   -- bytes, where it held bytes and bytes are fed
-  pub memory-bytes : Bytes bs → Bytes m → Bytes (run_of (run c m more) bs).memory
-  memory-bytes u v =
+  pub memory_bytes : Bytes bs → Bytes m → Bytes (run_of (run c m more) bs).memory
+  memory_bytes u v =
       by_test (writes c) (λ w. bytes_stay memory bs c m w u v)
       (λ w. rw (run_puts bs c m, w) v)
 
@@ -106,7 +106,7 @@ module _ (c : Chain) (m bs : List ℕ) where
       (λ e.
       let x : ℕ = get_or m i 0 in
       let y : ℕ = get_or (run_of (run c m more) bs).memory i 0 in
-      rw e (ones-le 8 (bit_xor x y) (xor_lt 8 x y (bytes-at m v i) (bytes-at (run_of (run c m more) bs).memory (memory-bytes u v) i))))
+      rw e (ones-le 8 (bit_xor x y) (xor_lt 8 x y (bytes-at m v i) (bytes-at (run_of (run c m more) bs).memory (memory_bytes u v) i))))
       (λ e.
       let z : times_in i (puts_of c bs) ≡ 0 = omega (arith, leb-false 1 (times_in i (puts_of c bs)) e) in
       let k : get_or (run_of (run c m more) bs).memory i 0 ≡ get_or m i 0 =

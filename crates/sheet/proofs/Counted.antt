@@ -193,7 +193,7 @@ module _ (ps : List Put) (old mem : List ℕ) (same : mem ≡ put_into ps old) (
 -- a walk that marks nothing leaves the marks as they were
 pub walk_again : (ps : List Put) (marks marks' : List ℕ) (w : Walked) → Walk ps (length marks) false marks w marks' → Walk ps (length marks') false marks' w marks'
 walk_again ps marks marks' w x =
-    rw x.marks-left
+    rw x.marks_left
     (record {
       stored = x.stored;
       few = x.few;
@@ -202,7 +202,7 @@ walk_again ps marks marks' w x =
       below = x.below;
       above = x.above;
       once = x.once;
-      marks-left = refl;
+      marks_left = refl;
     })
 
 pub walk_sized : {ps : List Put} {n k : ℕ} {marking : Bool} {marks marks' : List ℕ} {w : Walked} → n ≡ k → Walk ps n marking marks w marks'

@@ -32,7 +32,7 @@ use Rattle.grammar.proofs.Runs.Keeps.{run_open, run-closed}
 use Rattle.grammar.proofs.Runs.Slices.{slice_runs, fed-over}
 use Rattle.sheet.specs.Stream.{Device, device, reset_device, hunt_fails, bytes_of_stream, started, load_of, closed_run, left_by}
 use Rattle.sheet.specs.Steps.{Ready}
-use Rattle.sheet.proofs.Bounds.{fed-bytes, memory-bytes}
+use Rattle.sheet.proofs.Bounds.{fed-bytes, memory_bytes}
 
 -- a device between two streams
 pub record Idle (d : Device) : Type 0 where
@@ -122,7 +122,7 @@ module _ (d : Device) (mode : ℕ) (s : List ℕ) (i : Idle d) (m : from first_m
                   (λ n. feed_closed r.chain (length r.memory) (run_open (started d mode) d.memory bytes b g h n))
                   (λ n. run-closed (started d mode) d.memory bytes b g h n);
             };
-        bytes = memory-bytes (started d mode) d.memory bytes b i.bytes;
+        bytes = memory_bytes (started d mode) d.memory bytes b i.bytes;
       }
 
   pub left-idle : Idle (left_by d mode s)

@@ -251,5 +251,5 @@ walk_ends ps len marking marks₀ marks w d rest x few z =
       below = λ i h. x.below i (omega (arith, l.first));
       above = x.above;
       once = x.once;
-      marks-left = x.marks_now;
+      marks_left = x.marks_now;
     })

@@ -93,7 +93,7 @@ pub record Walk (ps : List Put) (size : ℕ) (marking : Bool) (marks : List ℕ)
   pub below : (i : ℕ) → i < r.low → times_in i ps ≡ 0
   pub above : (i : ℕ) → r.top ≤ i → times_in i ps ≡ 0
   pub once : r.ordered ≡ true → (i : ℕ) → times_in i ps ≤ 1
-  pub marks-left : marks' ≡ pick marking (marked marks ps) marks
+  pub marks_left : marks' ≡ pick marking (marked marks ps) marks
 
 -- the row of a run: p is where its bytes begin, ps what it stores
 abbrev pub row_from : ℕ → ℕ → Answer → List Put → List ℕ → List ℕ → Sheet

@@ -74,7 +74,7 @@ module _ (e : List ℕ) (o a b : AfterFetch) (n : a.fetched.answer.number ≡ b.
       = by_test (B0 (kept_of o.fetched.chain.place o.fetched.fetcher (byte_next e o)).control) (λ t. x.set t ∙ sym (y.set t))
       (λ t. x.clear t ∙ sym (y.clear t)) in
       same_by a b n (x.chain ∙ sym y.chain) (x.memory ∙ sym y.memory) (x.kept_nothing ∙ ap fetcher_at k ∙ sym y.kept_nothing)
-      (x.taken-one_more ∙ sym y.taken-one_more) (x.mismatches-kept ∙ sym y.mismatches-kept)
+      (x.taken_one_more ∙ sym y.taken_one_more) (x.mismatches_kept ∙ sym y.mismatches_kept)
 
 -- ---- a loader that left the same as ours up to byte n has the same claims there
 

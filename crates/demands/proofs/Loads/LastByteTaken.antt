@@ -9,8 +9,8 @@ pub second_d : Demand2d ours
 second_d c m s k l h n =
     let e = slice_ended c m s k l h n in
     record {
-      taken = e.taken-one_more;
-      mismatches = e.mismatches-kept;
+      taken = e.taken_one_more;
+      mismatches = e.mismatches_kept;
       kept =
           record {
             cells = e.memory;

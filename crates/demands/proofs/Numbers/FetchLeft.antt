@@ -185,8 +185,8 @@ module _ (c : Chain) (f : Fetcher) (m e : List ℕ) (n k : ℕ) (l : k < n) (h :
             ∙ over-chain x.run.chain x.run.memory (next_number e x) y.fetcher open-end not_past
             ∙ ap (λ (d : Chain). with_place d closed_place) (sym chain-k);
         memory = (fetch_runs c f m e n z).1 ∙ ap (λ (w : Fetching). w.run.memory) s ∙ sym (fetch_runs c f m e k z).1;
-        taken-one_more = ap (λ (w : Fetched). w.answer.taken) r ∙ ap (λ (t : ℕ). (t + 1) % 2 ^ 32) (sym taken_at);
-        mismatches-kept =
+        taken_one_more = ap (λ (w : Fetched). w.answer.taken) r ∙ ap (λ (t : ℕ). (t + 1) % 2 ^ 32) (sym taken_at);
+        mismatches_kept =
             ap (λ (w : Fetched). w.answer.mismatches) r
             ∙ ap (λ (t : ℕ). t % 2 ^ 32) (add-zero x.run.chain.place.mismatches ∙ sym mismatches-at);
         kept_nothing = rw fetcher-n;

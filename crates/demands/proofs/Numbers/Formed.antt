@@ -24,5 +24,5 @@ m-well_saved c s =
     = search (m-formed, reads)
     in
     m-map parts
-    (λ h. record { length_27 = h.0; form_1 = h.1.0; zero_bit = h.1.1; zero-byte = h.1.2; place = h.2 })
-    (λ h. (h.length_27, (h.form_1, h.zero_bit, h.zero-byte), h.place))
+    (λ h. record { length_27 = h.0; form_1 = h.1.0; zero_bit = h.1.1; zero_byte = h.1.2; place = h.2 })
+    (λ h. (h.length_27, (h.form_1, h.zero_bit, h.zero_byte), h.place))

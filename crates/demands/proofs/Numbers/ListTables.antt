@@ -213,9 +213,9 @@ module _ (kind mode : ℕ) (s : List ℕ) (small : Bytes s) where
     pub list_table_lem : Table (listed_of s (preamble_at mode) (listed kind mode s starts ends offsets)).number (list_table kind mode s starts ends offsets) done
     list_table_lem = rw list-number (table rules (list_table kind mode s starts ends offsets) done tt (search (m_unknown, table-reads) depth 40))
 
-    pub list-taken : ListTaken kind mode s (listed_of s (preamble_at mode) (listed kind mode s starts ends offsets)).taken
+    pub list_taken : ListTaken kind mode s (listed_of s (preamble_at mode) (listed kind mode s starts ends offsets)).taken
     unfolding listed_of list_stop
-    list-taken =
+    list_taken =
         record {
           none = ⊎_elim (λ u. rw ((m_unknown kind).said u))
               (λ n. let f : from first_mode two_preambles mode ≡ false = said (search reads) n in either_way (λ (e : Stop). e.taken ≡ 0) (eqb (size_of kind) 0) _ _ refl (rw f));
@@ -239,7 +239,7 @@ list-refused kind mode s starts ends offsets r starts' ends' offsets' l h =
       windows = ap (λ (x : Listed). x.windows) l.answer ∙ rw e;
       control = ap (λ (x : Listed). x.control) l.answer ∙ rw e;
       address = ap (λ (x : Listed). x.address) l.answer ∙ rw e;
-      starts-kept = l.starts-left ∙ rw e;
-      ends-kept = l.ends-left ∙ rw e;
-      offsets-kept = l.offsets-left ∙ rw e;
+      starts_kept = l.starts_left ∙ rw e;
+      ends_kept = l.ends_left ∙ rw e;
+      offsets_kept = l.offsets_left ∙ rw e;
     }

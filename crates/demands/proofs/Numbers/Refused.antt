@@ -114,8 +114,8 @@ ended_by c m s d k n z e h =
     record {
       chain = ap (λ (x : Fed). x.chain) f ∙ fed-over (run (ended d) k n) h;
       memory = r.1 ∙ ap (λ (x : Run). x.memory) e;
-      taken-one_more = ap (λ (x : Fed). x.answer.taken) f;
-      mismatches-kept = ap (λ (x : Fed). x.answer.mismatches) f ∙ ap (λ (x : ℕ). x % 2 ^ 32) (add-zero d.place.mismatches);
+      taken_one_more = ap (λ (x : Fed). x.answer.taken) f;
+      mismatches_kept = ap (λ (x : Fed). x.answer.mismatches) f ∙ ap (λ (x : ℕ). x % 2 ^ 32) (add-zero d.place.mismatches);
     }
 
 pub byte-ended : (c : Chain) (m : List ℕ) (b : ℕ) → Running c m → slice_number c m (b ∷ []) ≢ more → ByteEnded c m b

@@ -43,17 +43,17 @@ module _ (size : ℕ) (ss es : List ℕ) where
   to_reached : (i : ℕ) → UpTo size ss es i → Reached size ss es i
   to_reached i u =
       record {
-        start-there = u.started;
-        end-there = u.ended;
+        start_there = u.started;
+        end_there = u.ended;
         within = of_within size i ss es (omega (arith, u.started)) (omega (arith, u.ended)) u.before;
       }
 
   of_reached : (i : ℕ) → Reached size ss es i → UpTo size ss es i
   of_reached i r =
       record {
-        started = r.start-there;
-        ended = r.end-there;
-        before = to_within size i ss es (omega (arith, r.start-there)) (omega (arith, r.end-there)) r.within;
+        started = r.start_there;
+        ended = r.end_there;
+        before = to_within size i ss es (omega (arith, r.start_there)) (omega (arith, r.end_there)) r.within;
       }
 
   find_start : (n : ℕ) → First size ss es n → n ≡ bad_start → FirstStart size ss es

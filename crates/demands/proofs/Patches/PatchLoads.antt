@@ -116,11 +116,11 @@ module _ (l : Loader) (meets : Demand2a l) (c : Chain) (m : List ℕ) (mode : �
               (λ i h.
               subst (λ (v : ℕ). v < 256) (sym (seen.regs i (omega (arith, h, seen.regs_many))))
               (last_small registers xs i (get_or c.registers i 0) small (bytes-at c.registers d.idle.register_bytes i)));
-          memory-bytes =
+          memory_bytes =
               bytes_by m'
               (λ i h.
               subst (λ (v : ℕ). v < 256) (sym (seen.cells i (omega (arith, h, seen.cells_many))))
-              (last_small memory xs i (get_or m i 0) small (bytes-at m d.idle.memory-bytes i)));
+              (last_small memory xs i (get_or m i 0) small (bytes-at m d.idle.memory_bytes i)));
           sound = closed-taken c' (length m') usable seen.running;
           closed_place_lem = seen.running;
         }

@@ -52,7 +52,7 @@ device =
             kinds = refl;
             registers = refl;
             register_bytes = bytes_below (replicate 8 0) refl;
-            memory-bytes = bytes_below parked refl;
+            memory_bytes = bytes_below parked refl;
             sound = refl;
             closed_place_lem = refl;
           };
@@ -214,7 +214,7 @@ abbrev pub file_s : File patch_s
 file_s =
     record {
       after = 0xff ∷ [];
-      after-bytes = bytes_below (0xff ∷ []) refl;
+      after_bytes = bytes_below (0xff ∷ []) refl;
       starts = replicate 2 0;
       ends = replicate 2 0;
       offsets = replicate 3 0;
@@ -225,7 +225,7 @@ abbrev pub file_v : File patch_v
 file_v =
     record {
       after = 0x00 ∷ [];
-      after-bytes = bytes_below (0x00 ∷ []) refl;
+      after_bytes = bytes_below (0x00 ∷ []) refl;
       starts = replicate 1 0;
       ends = replicate 1 0;
       offsets = replicate 1 0;

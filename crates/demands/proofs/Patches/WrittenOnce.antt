@@ -140,10 +140,10 @@ module _ (l : Loader) (a : Demand2a l) (r : Demand2c l) (c : Chain) (m : List �
     address = u.address0 ∷ u.address1 ∷ u.address2 ∷ []
 
     f_lists : Again l kind k (s ++ f.after) (ran l writing k c m [] (s ++ f.after)).fed.answer.taken p.reading.first (file_listing l f)
-    f_lists = again k s f.after f.starts f.ends f.offsets p.reading p.of_mode p.bytes f.after-bytes f.room
+    f_lists = again k s f.after f.starts f.ends f.offsets p.reading p.of_mode p.bytes f.after_bytes f.room
 
     g_lists : Again l kind n (t ++ g.after) (ran l writing n c m [] (t ++ g.after)).fed.answer.taken q.reading.first (file_listing l g)
-    g_lists = again n t g.after g.starts g.ends g.offsets q.reading q.of_mode q.bytes g.after-bytes g.room
+    g_lists = again n t g.after g.starts g.ends g.offsets q.reading q.of_mode q.bytes g.after_bytes g.room
 
     -- what the writer is lent
     lent : written_once l f g o u out ≡ l.write kind o u.control address (starts u.windows) (ends u.windows) (cells u.windows) out
@@ -216,8 +216,8 @@ module _ (l : Loader) (a : Demand2a l) (r : Demand2c l) (c : Chain) (m : List �
         stream_is =
             let w = wrote in
             let ws-are : w.windows ≡ u.windows =
-            only_windows (size_at c 0) w.windows u.windows w.fits.fit u_fits.fit w.zero-nulls u_same w.starts-are w.ends-are w.cells_are in
-            w.given-are
+            only_windows (size_at c 0) w.windows u.windows w.fits.fit u_fits.fit w.zero_nulls_lem u_same w.starts_are w.ends_are w.cells_are in
+            w.given_are
             ∙ ap (λ (ws : List Window). bytes_of (stream_sent no_chain o (section_of u.control address ws) [])) ws-are
             ∙ any-chain no_chain c o u
 

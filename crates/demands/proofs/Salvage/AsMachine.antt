@@ -103,7 +103,7 @@ module _ (kind : ℕ) (s : List ℕ) (known : size_of kind ≡ 0 → ⊥) where
               let w = front-within kind (replicate 7 0) first_mode zeros s small (length kept) rest offset all head read
               (λ y. then_broken (size_of kind) s announced 6 (omega (arith, all))) n g h e in
               let q = place_is n e in
-              rw q (w.past-null, w.in_window, w.left ∙ sym r);
+              rw q (w.past_null, w.in_window, w.left ∙ sym r);
           end =
               number_is (length s)
               ∙ ap (λ (t : List ℕ). (machine_of kind (replicate 7 0) first_mode zeros t).number) (take-length s)

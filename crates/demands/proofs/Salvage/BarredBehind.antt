@@ -36,7 +36,7 @@ welcomes_two =
             kinds = refl;
             registers = refl;
             register_bytes = bytes_below two.registers refl;
-            memory-bytes = bytes_below cells refl;
+            memory_bytes = bytes_below cells refl;
             sound = refl;
             closed_place_lem = refl;
           };

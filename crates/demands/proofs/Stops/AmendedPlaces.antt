@@ -38,7 +38,7 @@ pub at-two : Offers two cells0 (0x08 ∷ []) no_check
 unfolding size_of base_of known_of is_bad_chain unused_zero is_well_formed is_ill_formed feed_number number_of passed_of advance_of address_of memory_of registers_of missed_of step_of run_of fed_of slice_of slice_memory closing_bytes written_number
 at-two =
     record {
-      is_open = record { kinds = refl; registers = refl; register_bytes = zeros-bytes 8; memory-bytes = zeros-bytes 52; sound = refl };
+      is_open = record { kinds = refl; registers = refl; register_bytes = zeros-bytes 8; memory_bytes = zeros-bytes 52; sound = refl };
       bytes_are = refl;
       ends_with = refl;
     }
@@ -63,7 +63,7 @@ here : (start end : ℕ) (bytes : List ℕ) (n : ℕ) → feed_number (eleven st
     → Offers (eleven start end) cells2 bytes n
 here start end bytes n o e f =
     record {
-      is_open = record { kinds = refl; registers = refl; register_bytes = zeros-bytes 8; memory-bytes = zeros-bytes 2665; sound = o };
+      is_open = record { kinds = refl; registers = refl; register_bytes = zeros-bytes 8; memory_bytes = zeros-bytes 2665; sound = o };
       bytes_are = e;
       ends_with = f;
     }

@@ -49,7 +49,7 @@ room s m out o e = room_enough s m (length out) o.kinds (feed_is_open s (length 
 
 module _ (s : Chain) (m : List ℕ) (o : Open s m) where
   all_small : Bytes (closing_bytes s m)
-  all_small = closing_are_bytes s m o.register_bytes o.memory-bytes
+  all_small = closing_are_bytes s m o.register_bytes o.memory_bytes
 
   pub closing-cut : (ps : List (List ℕ)) (b : ℕ) (last : List ℕ) → joined ps ++ (b ∷ last) ≡ closing_bytes s m
       → slices ours s m ps (b ∷ last) ≡ ours.slice s m (closing_bytes s m)

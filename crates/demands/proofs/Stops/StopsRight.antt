@@ -131,7 +131,7 @@ module _ (c : Chain) (m : List ℕ) (mode : ℕ) (bs : List ℕ) (idle : Idle c 
           kinds = ap length n.kinds ∙ idle.kinds;
           registers = n.registers ∙ idle.registers;
           register_bytes = bytes_stay registers (take j bs) o m refl (bytes_take j bs small) idle.register_bytes;
-          memory-bytes = bytes_stay memory (take j bs) o m refl (bytes_take j bs small) idle.memory-bytes;
+          memory_bytes = bytes_stay memory (take j bs) o m refl (bytes_take j bs small) idle.memory_bytes;
           sound = stop_feeds;
         }
 

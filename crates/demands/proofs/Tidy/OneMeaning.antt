@@ -90,7 +90,7 @@ device_with c m n d e u =
             kinds = d.idle.kinds;
             registers = d.idle.registers;
             register_bytes = d.idle.register_bytes;
-            memory-bytes = u;
+            memory_bytes = u;
             sound = ap (state_number c) e ∙ d.idle.sound;
             closed_place_lem = d.idle.closed_place_lem;
           };

@@ -57,7 +57,7 @@ module _ (kind : ℕ) (known : size_of kind ≡ 0 → ⊥) where
         kinds = ap length (kinds_kept kind known);
         registers = refl;
         register_bytes = zeros-bytes 8;
-        memory-bytes = zeros-bytes (size_of kind);
+        memory_bytes = zeros-bytes (size_of kind);
         sound = rw (fresh-formed kind known, kinds_kept kind known, length-replicate {A = ℕ} (size_of kind) 0, good_chain kind known);
         closed_place_lem = refl;
       }

@@ -44,7 +44,7 @@ opened_down = (ours.start teaching parked downward writing).chain
 open_down : Open opened_down parked
 unfolding size_of base_of known_of is_bad_chain unused_zero is_well_formed is_ill_formed state_number feed_number number_of passed_of advance_of address_of memory_of registers_of missed_of step_of start_number start_of home_of next_of kept_of external_of jumps astray onward fetcher_at_end fed_with took_of fetch_one fetch_all fetch_number fetched_of fetch_of fetch_memory
 open_down =
-    record { kinds = refl; registers = refl; register_bytes = zeros-bytes 8; memory-bytes = bytes_below parked refl; sound = refl }
+    record { kinds = refl; registers = refl; register_bytes = zeros-bytes 8; memory_bytes = bytes_below parked refl; sound = refl }
 
 -- ---- a jump after every null byte: the second window is never reached, and the run is not over with its bytes
 
@@ -115,7 +115,7 @@ back = drop 12 stream_a
 
 open_up : Open opened_up cells0
 unfolding size_of base_of known_of is_bad_chain unused_zero is_well_formed is_ill_formed state_number feed_number number_of passed_of advance_of address_of memory_of registers_of missed_of step_of start_number start_of home_of next_of kept_of external_of jumps astray onward fetcher_at_end fed_with took_of fetch_one fetch_all fetch_number fetched_of fetch_of fetch_memory
-open_up = record { kinds = refl; registers = refl; register_bytes = zeros-bytes 8; memory-bytes = zeros-bytes 52; sound = refl }
+open_up = record { kinds = refl; registers = refl; register_bytes = zeros-bytes 8; memory_bytes = zeros-bytes 52; sound = refl }
 
 pub shut_past_out : GoesOn shut_past → ⊥
 unfolding size_of base_of known_of is_bad_chain unused_zero is_well_formed is_ill_formed state_number feed_number number_of passed_of advance_of address_of memory_of registers_of missed_of step_of run_of start_number start_of fed_of slice_of slice_memory home_of next_of kept_of external_of jumps astray onward fetcher_at_end fed_with took_of fetch_one fetch_all bytes_fetched fetch_number unfetched fetched_of fetch_of fetch_memory

@@ -65,16 +65,16 @@ formed-as_write : (c : Chain) → WellFormed c c.registers c.place → WellForme
 formed-as_write c f =
     record {
       mode_1_to_6 = f.mode_1_to_6;
-      write_or-check = (omega arith, omega arith);
+      write_or_check = (omega arith, omega arith);
       awaited_0_to_13 = f.awaited_0_to_13;
       device_in_chain = f.device_in_chain;
       unused_registers = f.unused_registers;
       write_mismatches = λ _. refl;
-      first-device = f.first-device;
+      first_device = f.first_device;
       second_in_6 = f.second_in_6;
-      control-before = f.control-before;
-      control-taken = f.control-taken;
-      control-checked = λ e. absurd (no_check e.1);
+      control_before = f.control_before;
+      control_taken = f.control_taken;
+      control_checked = λ e. absurd (no_check e.1);
       at_0_to_6_and_13 = f.at_0_to_6_and_13;
       at_7_to_12 = f.at_7_to_12;
       at_7_and_8 = f.at_7_and_8;

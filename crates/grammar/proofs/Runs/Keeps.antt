@@ -57,7 +57,7 @@ went_sound c m b len small eight n s =
     let d = went_on c m b in
     let w = formed_of d d.registers d.place (went_keeps c m b small u.fits.few eight (of_formed c c.registers c.place s.formed) n) in
     record {
-      usable = record { fits = u.fits; kinds = u.kinds; registers = w.unused-registers };
+      usable = record { fits = u.fits; kinds = u.kinds; registers = w.unused_registers };
       running = (went_stays c m b).running ∙ s.running;
       formed = w;
     }

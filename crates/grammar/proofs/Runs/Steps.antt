@@ -62,7 +62,7 @@ module _ (c : Chain) (p : Place) (b : ℕ) where
       (λ e.
       let q : eqb b preamble ≡ true = not-false (eqb b preamble) (no_rule (at at_preamble) b n no_preamble) in
       let g = begins_clear (at at_preamble) b n (rw (q, e)) in
-      let d : eqb p.device 0 ≡ true = eq-eqb p.device 0 ((good at_preamble h).first-device (lit≤ tt, lit≤ tt)) in
+      let d : eqb p.device 0 ≡ true = eq-eqb p.device 0 ((good at_preamble h).first_device (lit≤ tt, lit≤ tt)) in
       rw (e, g.0, g.1) (rw d at h))
 
   keeps_1 : Keeps at_second
@@ -71,14 +71,14 @@ module _ (c : Chain) (p : Place) (b : ℕ) where
       let q : eqb b preamble ≡ true = not-false (eqb b preamble) (no_rule (at at_second) b n no_preamble) in
       let g = begins_clear (at at_second) b n (rw q) in
       let f = good at_second h in
-      rw (g.0, g.1) (rw (eq-eqb p.device 0 (f.first-device (lit≤ tt, lit≤ tt)), eq-eqb p.mode two_preambles (f.second_in_6 refl)) at h)
+      rw (g.0, g.1) (rw (eq-eqb p.device 0 (f.first_device (lit≤ tt, lit≤ tt)), eq-eqb p.mode two_preambles (f.second_in_6 refl)) at h)
 
   -- the byte is loaded, and read back
   keeps_2 : p.device < length c.registers → Keeps at_control
   unfolding is_well_formed registers_of advance_of unused_zero
   keeps_2 inside h n =
       let f = good at_control h in
-      let z : p.control ≡ 0 = f.control-before (lit≤ tt) in
+      let z : p.control ≡ 0 = f.control_before (lit≤ tt) in
       let four : B4 (place_register c.registers p) ≡ false = ne_eqb (place_register c.registers p / bit4 % 2) 1 (f.at_2 refl) in
       let far = drop-set-lt c.count c.registers p.device b f.device_in_chain in
       let near = get_or-set_same c.registers p.device b 0 inside in
@@ -87,7 +87,7 @@ module _ (c : Chain) (p : Place) (b : ℕ) where
       let w : p.check ≡ writing = eqb-true p.check writing e in
       rw (w, far, near, eq-eqb b b refl) (rw (w, z, four) at h))
       (λ e.
-      let w : p.check ≡ checking = omega (arith, f.write_or-check, eqb-false p.check writing e) in
+      let w : p.check ≡ checking = omega (arith, f.write_or_check, eqb-false p.check writing e) in
       let seven : (B3 b) ≡ false = rw (w, and-false (eqb b preamble)) at (no_rule (at at_control) b n no_check) in
       rw (w, far, near, eq-eqb b b refl, seven) (rw (w, z, four, ne_eqb (place_register c.registers p / bit3 % 2) 1 (f.at_2_checked (refl, w))) at h))
 
@@ -169,8 +169,8 @@ module _ (c : Chain) (p : Place) (b : ℕ) where
       let g = begins_clear (at at_check) b n (rw q) in
       let last : p.device + 1 < c.count = leb-false c.count (p.device + 1) (rw q at (no last_device)) in
       let d : ltb ((p.device + 1) % 2 ^ 8) c.count ≡ true = rw (mod-eq_of_lt {n = p.device + 1} {m = 2 ^ 8} (omega arith)) (lt-ltb (p.device + 1) c.count last) in
-      let clear : p.check ≡ checking → Sets bit3 p.control → ⊥ = λ e. f.control-checked (lit< tt, e) in
-      let w : eqb p.control (place_register c.registers p) ≡ true = eq-eqb p.control (place_register c.registers p) (f.control-taken (lit< tt)) in
+      let clear : p.check ≡ checking → Sets bit3 p.control → ⊥ = λ e. f.control_checked (lit< tt, e) in
+      let w : eqb p.control (place_register c.registers p) ≡ true = eq-eqb p.control (place_register c.registers p) (f.control_taken (lit< tt)) in
       let k : (eqb p.check checking implies not (B3 p.control)) ≡ true = said (search reads) clear in
       rw (d, g.0, g.1) (rw (lt-ltb p.device c.count f.device_in_chain, w, k) at h)
 
