@@ -29,6 +29,10 @@ HAND = {
     "atEnd": "fetcher_at_end",
     "noWindows": "without_windows",
     "section-of": "section_with",
+    "zero-nulls": "nulls_zero",
+    "other-order": "in_other_order",
+    "goes_on": "keeps_going",
+    "closed-place": "is_closed",
     "byRow": "formed_by_row",
     "fromOne": "counts_from_one",
 }

@@ -40,7 +40,7 @@ eight = record { count = 8; kinds = replicate 8 0; registers = 0 ∷ 0 ∷ 0xef 
 pub idle-eight : Idle eight (replicate 416 0)
 unfolding state_number is_bad_chain is_ill_formed unused_zero is_well_formed known_of base_of size_of
 idle-eight =
-    record { kinds = refl; registers = refl; register_bytes = bytes_below eight.registers refl; memory_bytes = zeros-bytes 416; sound = refl; closed_place_lem = refl }
+    record { kinds = refl; registers = refl; register_bytes = bytes_below eight.registers refl; memory_bytes = zeros-bytes 416; sound = refl; is_closed = refl }
 
 abbrev pub none : Section
 none = section_of 0 (0 ∷ 0 ∷ 0 ∷ []) []

@@ -420,7 +420,7 @@ pub record ShutOut : Type 0 where
   pub fills_up : SoundAlways filled_up → ⊥
   pub offset-taken : MachineGives taken_offset → ⊥
   pub salvages_accepted : InOrderExactly accepted_alone → ⊥
-  pub other_order_lem : AsMended other_order → ⊥
+  pub in_other_order : AsMended other_order → ⊥
   -- document 02, wish 1: a jump after every null byte; what the run before left, kept at a fresh start; counting up in mode 2; a jump above 1FFFF; the
   -- counter kept though B0 is clear; 18 that closes the run; 18 that puts the counter back
   pub every_null_lem : FetchedAsFed every_null → ⊥
@@ -480,7 +480,7 @@ shut_out =
       fills_up = filled_up_out;
       offset-taken = taken_offset_out;
       salvages_accepted = accepted_alone_out;
-      other_order_lem = other_order_out;
+      in_other_order = other_order_out;
       every_null_lem = every_null_out;
       keeps_stale = stale_out;
       counts_up = upward_out;

@@ -95,7 +95,7 @@ pub record Checked (check mode : ℕ) (c : Chain) (m bs : List ℕ) (a b : After
   pub regs : (d : ℕ) → d < length c.registers
       → get_or a.fed.chain.registers d 0 ≡ last_to registers (walk_of (with_place c (opened_place mode check)) bs) d (get_or c.registers d 0)
   pub regs_many : length a.fed.chain.registers ≡ length c.registers
-  pub goes_on_lem : a.fed.answer.number ≡ more → b.fed.answer.number ≡ more
+  pub keeps_going : a.fed.answer.number ≡ more → b.fed.answer.number ≡ more
   pub as_written : a.fed.answer.number ≡ more → a.fed.chain.registers ≡ b.fed.chain.registers
 
 -- a check, whatever it is fed and whatever it answers

@@ -82,7 +82,7 @@ pub record AsSaid (mode k n : ℕ) (e bs : List ℕ) (a : AfterFetch) : Type 0 w
   pub all : a.fetched.answer.number ≡ more → length bs ≡ n
   pub beyond : a.fetched.answer.number ≡ past_eprom → length e ≤ counter_after mode k bs
   pub far : a.fetched.answer.number ≡ bad_jump → (jumps_in bs ≡ true) × (last_count < address_in bs)
-  pub goes_on_lem : a.fetched.answer.number ≡ more → 0 < length bs → a.fetched.fetcher ≡ kept_after mode k bs
+  pub keeps_going : a.fetched.answer.number ≡ more → 0 < length bs → a.fetched.fetcher ≡ kept_after mode k bs
   pub past : a.fetched.answer.number ≡ past_eprom → 0 < length bs → a.fetched.fetcher ≡ kept_after mode k bs
   pub over : a.fetched.answer.number ≢ more → a.fetched.answer.number ≢ past_eprom
       → a.fetched.fetcher ≡ end_after mode k bs a.fetched.answer.number

@@ -65,7 +65,7 @@ pub record ListsAs (mode : ℕ) (bs : List ℕ) (t : ℕ) (s : Section) (a : Aft
 pub record Wrote (l : Loader) (kind mode : ℕ) (head : List Window → Section) (ss es d bs : List ℕ) : Type 0 where
   pub windows : List Window
   pub fits : SectionFits (size_of kind) (head windows)
-  pub zero_nulls_lem : nulled windows ≡ windows
+  pub nulls_zero : nulled windows ≡ windows
   pub starts_are : starts windows ≡ ss
   pub ends_are : ends windows ≡ es
   pub cells_are : cells windows ≡ d

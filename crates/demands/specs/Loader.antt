@@ -108,7 +108,7 @@ pub record Idle (c : Chain) (m : List ℕ) : Type 0 where
   pub register_bytes : Bytes c.registers
   pub memory_bytes : Bytes m
   pub sound : state_number c (length m) ≡ done
-  pub closed_place_lem : c.place.running ≡ closed
+  pub is_closed : c.place.running ≡ closed
 
 -- the same with a run open, to which bytes can be fed: not 1, 17 or 4
 pub record Open (c : Chain) (m : List ℕ) : Type 0 where

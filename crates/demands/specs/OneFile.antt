@@ -65,7 +65,7 @@ pub record InShape {c : Chain} {s : List ℕ} (a : Accepted c s) (u : List ℕ) 
   pub accepted : Accepted c u
   pub head : SameHead (section accepted) (section a)
   pub gaps : Gaps (windows accepted)
-  pub zero_nulls_lem : nulled (windows accepted) ≡ windows accepted
+  pub nulls_zero : nulled (windows accepted) ≡ windows accepted
   pub cells : (i : ℕ) → InSome i (windows accepted) ↔ InSome i (windows a)
   pub fewer : length (windows accepted) ≤ length (windows a)
   pub shorter : length u ≤ length s

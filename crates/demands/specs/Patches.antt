@@ -86,7 +86,7 @@ NoneShared vs ws = (i : ℕ) → InSome i vs → InSome i ws → ⊥
 -- x then y, or y then x, however each is cut when it is sent first and when it is sent second
 pub record EitherOrder (l : Loader) (c : Chain) (m : List ℕ) {k n : ℕ} {s t : List ℕ} (x x' : Sending k s) (y y' : Sending n t) : Type 0 where
   pub one_order : BothLoad l c m x y
-  pub other_order_lem : BothLoad l c m y' x'
+  pub in_other_order : BothLoad l c m y' x'
   pub memory : (left_by_both l c m x y).memory ≡ (left_by_both l c m y' x').memory
 
 abbrev pub Apart : Loader → Type 0

@@ -96,13 +96,13 @@ module _ (e d : List ℕ) where
   abbrev pub GoesOn : Fetching → Fetching → List ℕ → Type 0
   GoesOn x y bs = fetch_all (e ++ d) (length bs) x ≡ lent y.run.chain y.run.memory y.fetcher
 
-  pub goes_on_lem : (n : ℕ) (c : Chain) (m : List ℕ) (f : Fetcher) → (fetch_all e n (lent c m f)).run.number ≡ past_eprom
+  pub keeps_going : (n : ℕ) (c : Chain) (m : List ℕ) (f : Fetcher) → (fetch_all e n (lent c m f)).run.number ≡ past_eprom
       → GoesOn (lent c m f) (fetch_all e n (lent c m f)) (bytes_fetched e n (lent c m f))
-  goes_on_lem zero c m f h = absurd (never (rw (fetch_none e (lent c m f)) at h))
+  keeps_going zero c m f h = absurd (never (rw (fetch_none e (lent c m f)) at h))
     where
       never : more ≡ past_eprom → ⊥
       never q = omega arith
-  goes_on_lem (suc n) c m f h =
+  keeps_going (suc n) c m f h =
       let b : ℕ = byte_at e f in
       by_turn e c f (λ l. let t = comes_past e n c m f l in rw (t.0, t.1) (fetch_none (e ++ d) (lent c m f)))
       (λ l a. absurd (never (rw (comes_strays e n c m f l a).0 at h)))
@@ -111,7 +111,7 @@ module _ (e d : List ℕ) where
       let t = comes_goes e n c m f s g in
       rw (t.0, t.1)
       (still_goes (length (bytes_fetched e n (later e n c m f))) c m f s g
-      ∙ goes_on_lem n (went_on c m b) (memory_of c m b) (onward c.place f b) (rw t.0 at h)))
+      ∙ keeps_going n (went_on c m b) (memory_of c m b) (onward c.place f b) (rw t.0 at h)))
     where
       never : bad_jump ≡ past_eprom → ⊥
       never q = omega arith

@@ -195,7 +195,7 @@ next-begins c p b k =
     let e : eqb b preamble ≡ true = not-false (eqb b preamble) (rw n at k.check-byte) in
     record {
       byte = eqb-true b preamble e;
-      bit = rw e at k.goes_on_lem;
+      bit = rw e at k.keeps_going;
       device = leb-false c.count (p.device + 1) (rw e at k.next_device_lem);
     }
 

@@ -54,7 +54,7 @@ one_of_lem n k ((false gives m) ∷ rules) d e = rw (and-false (eqb m n)) (one_o
 pub record Clean (c : Chain) (b : ℕ) : Type 0 where
   pub opens : ((awaits c at_preamble || awaits c at_second) && not (eqb b preamble)) ≡ false
   pub check-byte : (awaits c at_check && not (eqb b postamble) && not (eqb b preamble)) ≡ false
-  pub goes_on_lem : (awaits c at_check && eqb b preamble && B2 c.place.control) ≡ false
+  pub keeps_going : (awaits c at_check && eqb b preamble && B2 c.place.control) ≡ false
   pub next_device_lem : (awaits c at_check && eqb b preamble && on_last c) ≡ false
   pub start : (awaits c at_start_low && is_bad_start c b) ≡ false
   pub end : (awaits c at_end_low && is_bad_end c b) ≡ false
@@ -68,7 +68,7 @@ module _ (c : Chain) (b : ℕ) where
       record {
         opens = n.0;
         check-byte = n.1.0;
-        goes_on_lem = n.1.1.0;
+        keeps_going = n.1.1.0;
         next_device_lem = n.1.1.1.0;
         start = n.1.1.1.1.1.1.0;
         end = n.1.1.1.1.1.1.1.0;

@@ -282,7 +282,7 @@ module _ (kind : ℕ) (ks : List ℕ) (mode : ℕ) (m s : List ℕ) where
       let a = then_done (head_stop mode s) (windows_stop (size_of kind) s (count_at s p)) b.0 in
       let d = head_done mode s a.0 in
       let f : e.taken ≡ at = ap (λ (x : Stop). x.taken) a.1 ∙ rw d.0 in
-      (all-taken bytes).goes_on_lem b.0 ∙ check_accepts kind ks mode all s (control_at s p) at (rw f at b.2)
+      (all-taken bytes).keeps_going b.0 ∙ check_accepts kind ks mode all s (control_at s p) at (rw f at b.2)
 
 -- ---- all of it
 
@@ -322,4 +322,4 @@ module _ (kind : ℕ) (ks : List ℕ) (mode : ℕ) (m s : List ℕ) (bytes : (i 
   unfolding c₀ c₁
   stream_stands k n at all z whole =
       let d = head_done mode s z in
-      rw (ap (λ (e : Stop). e.taken) whole) at ((windows-taken kind ks mode m s bytes k n all).goes_on_lem (rw (d.0, whole)))
+      rw (ap (λ (e : Stop). e.taken) whole) at ((windows-taken kind ks mode m s bytes k n all).keeps_going (rw (d.0, whole)))

@@ -46,29 +46,29 @@ ticked e = stop e.number (tick e.taken)
 
 -- the run x, of a stream that is read up to e: it stops where the reading does, or, that being whole, it is the run y
 pub record Takes (x : Run) (e : Stop) (y : Run) : Type 0 where
-  pub goes_on_lem : e.number ≡ done → x ≡ y
+  pub keeps_going : e.number ≡ done → x ≡ y
   pub stops : (e.number ≡ done → ⊥) → end_of x ≡ ticked e
 
 pub takes_whole : {x y : Run} {t : ℕ} → x ≡ y → Takes x (stop done t) y
-takes_whole h = record { goes_on_lem = λ z. h; stops = λ z. absurd (z refl) }
+takes_whole h = record { keeps_going = λ z. h; stops = λ z. absurd (z refl) }
 
 pub takes_stop : {x y : Run} {n t : ℕ} → eqb n done ≡ false → end_of x ≡ stop n (tick t) → Takes x (stop n t) y
-takes_stop {n = n} q h = record { goes_on_lem = λ z. absurd (eqb-false n done q z); stops = λ z. h }
+takes_stop {n = n} q h = record { keeps_going = λ z. absurd (eqb-false n done q z); stops = λ z. h }
 
 -- and what is read after it
 pub takes_ends : (x y : Run) (e : Stop) (f : ℕ → Stop) → Takes x e y → (e.number ≡ done → end_of y ≡ ticked (f e.taken)) → end_of x ≡ ticked (e then f)
 takes_ends x y e f t k =
     by_test (eqb e.number done)
     (λ q. let z : e.number ≡ done = eqb-true e.number done q in
-    rw q (ap end_of (t.goes_on_lem z) ∙ k z))
+    rw q (ap end_of (t.keeps_going z) ∙ k z))
     (λ q. rw q (t.stops (eqb-false e.number done q)))
 
 pub takes_then : (x y z : Run) (e : Stop) (f : ℕ → Stop) → Takes x e y → (e.number ≡ done → Takes y (f e.taken) z) → Takes x (e then f) z
 takes_then x y z e f t k =
     by_test (eqb e.number done)
     (λ q. let a : e.number ≡ done = eqb-true e.number done q in
-    rw q (record { goes_on_lem = λ b. t.goes_on_lem a ∙ (k a).goes_on_lem b; stops = λ b. ap end_of (t.goes_on_lem a) ∙ (k a).stops b }))
-    (λ q. rw q (record { goes_on_lem = λ b. absurd (eqb-false e.number done q b); stops = t.stops }))
+    rw q (record { keeps_going = λ b. t.keeps_going a ∙ (k a).keeps_going b; stops = λ b. ap end_of (t.keeps_going a) ∙ (k a).stops b }))
+    (λ q. rw q (record { keeps_going = λ b. absurd (eqb-false e.number done q b); stops = t.stops }))
 
 -- the byte at `at` ends the run
 pub run_ends : (c : Chain) (m s : List ℕ) (at n : ℕ) → at < length s → number_of c (get_or s at 0) ≡ n → eqb n more ≡ false
@@ -325,7 +325,7 @@ module _ (c : Chain) (size : ℕ) (sz : size_here c ≡ size) (s : List ℕ) whe
       let q = is_whole size s at z in
       let x : (window_stop size s at).taken ≡ next_at s at = whole-next size s at q in
       let u = windows_as_machine k n (stored_of s (base_of c.kinds c.place.device) m (read_window_of size s at)) (next_at s at) q.all_there in
-      let v = t.goes_on_lem z ∙ rw q.reads in
-      record { goes_on_lem = λ y. v ∙ u.goes_on_lem (rw (e, x) at y) ∙ rw (e, x); stops = λ y. ap end_of v ∙ u.stops (λ a. y (rw (e, x) a)) ∙ rw (e, x) })
+      let v = t.keeps_going z ∙ rw q.reads in
+      record { keeps_going = λ y. v ∙ u.keeps_going (rw (e, x) at y) ∙ rw (e, x); stops = λ y. ap end_of v ∙ u.stops (λ a. y (rw (e, x) a)) ∙ rw (e, x) })
       (λ e. let f = eqb-false (window_stop size s at).number done e in
-      record { goes_on_lem = λ y. absurd (f (rw e at y)); stops = λ y. t.stops f ∙ rw e }))
+      record { keeps_going = λ y. absurd (f (rw e at y)); stops = λ y. t.stops f ∙ rw e }))

@@ -43,10 +43,10 @@ unfolding size_of base_of known_of is_bad_chain unused_zero is_well_formed is_il
 in_the_middle = (refl, refl, refl, refl, refl, refl, refl)
 
 -- a longer EPROM is lent: the run goes on, as if it had been lent at once
-pub goes_on_lem : ours.fetch (short 15).fetched.chain (short 15).fetched.fetcher (short 15).memory stream_a 3
+pub keeps_going : ours.fetch (short 15).fetched.chain (short 15).fetched.fetcher (short 15).memory stream_a 3
     ≡ ours.fetch (run first_mode) (fetcher_at 0) cells0 stream_a 15
 unfolding size_of base_of known_of is_bad_chain unused_zero is_well_formed is_ill_formed state_number feed_number number_of passed_of advance_of address_of memory_of registers_of missed_of step_of start_number start_of home_of next_of kept_of external_of jumps astray onward fetcher_at_end fed_with took_of fetch_one fetch_all fetch_number fetched_of fetch_of fetch_memory
-goes_on_lem = refl
+keeps_going = refl
 
 pub goes_on-done : (ours.fetch (run first_mode) (fetcher_at 0) cells0 stream_a 15).fetched.answer.number ≡ done
 unfolding size_of base_of known_of is_bad_chain unused_zero is_well_formed is_ill_formed state_number feed_number number_of passed_of advance_of address_of memory_of registers_of missed_of step_of start_number start_of home_of next_of kept_of external_of jumps astray onward fetcher_at_end fed_with took_of fetch_one fetch_all fetch_number fetched_of fetch_of fetch_memory

@@ -47,7 +47,7 @@ fetches-mode mode h =
 -- a state and a fetcher that can boot
 pub record CanBoot (mode : ℕ) (c : Chain) (f : Fetcher) (m : List ℕ) : Type 0 where
   pub sound : state_number c (length m) ≡ done
-  pub closed_place_lem : c.place.running ≡ closed
+  pub is_closed : c.place.running ≡ closed
   pub registers : length c.registers ≡ most_devices
   pub mode-fetches : fetches mode ≡ true
   pub counter : f.counter ≤ last_count
@@ -63,7 +63,7 @@ module _ (c : Chain) (f : Fetcher) (m e : List ℕ) (mode n : ℕ) (r : CanBoot 
   m-mode = fetches-mode mode r.mode-fetches
 
   start_is : ours.start c m mode writing ≡ record { chain = o; number = done }
-  start_is = started c m mode writing r.sound m-mode r.closed_place_lem
+  start_is = started c m mode writing r.sound m-mode r.is_closed
 
   begun_ready : Ready o m f
   begun_ready =
@@ -120,7 +120,7 @@ module _ (c : Chain) (f : Fetcher) (m e : List ℕ) (mode n : ℕ) (r : CanBoot 
         let long = accepted_long bs o a in
         let means = walk_meant c mode writing bs few.0 few.1 small a x in
         let short : length bs < 2 ^ 32 = omega (arith, long, ap length means, stream-short c mode x.first x.others few.1 x.fits) in
-        let l = load_is c m mode r.sound m-mode r.closed_place_lem bs in
+        let l = load_is c m mode r.sound m-mode r.is_closed bs in
         record {
           started = ap (λ (s : Made). s.number) start_is;
           number = ap (λ (s : AfterSlice). s.fed.answer.number) l ∙ accepted-done bs o m a;

@@ -47,7 +47,7 @@ module _ (c : Chain) (f g : Fetcher) (m e : List ℕ) (mode n : ℕ) (r : CanBoo
       let k : List ℕ = t.memory in
       let sound = start_sound d k mode h.again.started in
       let w : CanBoot mode d g k =
-      record { sound = sound; closed_place_lem = h.shut; registers = eight; mode-fetches = r.mode-fetches; counter = lg.counter } in
+      record { sound = sound; is_closed = h.shut; registers = eight; mode-fetches = r.mode-fetches; counter = lg.counter } in
       let a = whole-accepted d k mode sound h.shut (fetches-mode mode r.mode-fetches) bs h.again in
       let l =
       lockstep e n (begun c mode writing) (begun d mode writing) m k f g refl refl (afresh (begun c mode writing).place f g refl refl same)
@@ -70,7 +70,7 @@ module _ (c : Chain) (f g : Fetcher) (m e : List ℕ) (mode n : ℕ) (r : CanBoo
 pub boots_hold : BootsHold ours
 boots_hold c f m e mode n i k l u b =
     let r : CanBoot mode c f m =
-    record { sound = i.sound; closed_place_lem = i.closed_place_lem; registers = i.registers; mode-fetches = k; counter = l.counter } in
+    record { sound = i.sound; is_closed = i.is_closed; registers = i.registers; mode-fetches = k; counter = l.counter } in
     let xs : List ℕ = bytes_fetched e n (lent (begun c mode writing) m f) in
     let w = boot-whole c f m e mode n r b.number u in
     let held = demand3 c m mode xs i (fetches-mode mode k) (fetched-bytes e u n (begun c mode writing) m f) w in

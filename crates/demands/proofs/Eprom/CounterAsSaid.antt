@@ -152,7 +152,7 @@ module _ (c : Chain) (f : Fetcher) (m e : List ℕ) (mode n : ℕ) (u : Bytes e)
         all = more-all e n c m f;
         beyond = λ q. rw (← kept_counter mode f.counter (w.past q)) (past_beyond e n c m f q);
         far = w.strays;
-        goes_on_lem = λ q h. kept-all mode f.counter (w.goes q) h;
+        keeps_going = λ q h. kept-all mode f.counter (w.goes q) h;
         past = λ q h. kept-all mode f.counter (w.past q) h;
         over = w.over;
       }
@@ -160,7 +160,7 @@ module _ (c : Chain) (f : Fetcher) (m e : List ℕ) (mode n : ℕ) (u : Bytes e)
 pub counter_as_said : CounterAsSaid ours
 counter_as_said c f m e mode check n i k l u =
     let d : Chain = begun c mode check in
-    let s = started c m mode check i.sound (fetches-mode mode k) i.closed_place_lem in
+    let s = started c m mode check i.sound (fetches-mode mode k) i.is_closed in
     let r : Ready d m f =
     record { registers = i.registers; feeds = begun_feeds c m mode check i.sound (fetches-mode mode k); mode = k; counter = l.counter } in
     subst (λ (x : Chain). AsSaid mode f.counter n e (bytes_fetched e n (lent x m f)) (ours.fetch x f m e n)) (sym (ap (λ (y : Made). y.chain) s))

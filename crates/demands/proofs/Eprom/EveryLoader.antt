@@ -19,7 +19,7 @@ use Rattle.demands.specs.Ours.{ours}
 use Rattle.demands.proofs.Promised.{start-ours, slice_ours, closing-ours, fetch_ours}
 use Rattle.demands.proofs.Boards.Kept.{fetch_kept}
 use Rattle.demands.proofs.Eprom.FetchedAsFed.{fetched_as_fed}
-use Rattle.demands.proofs.Eprom.FetchedInParts.{in_parts, goes_on_lem}
+use Rattle.demands.proofs.Eprom.FetchedInParts.{in_parts, keeps_going}
 use Rattle.demands.proofs.Eprom.BootStops.{boots_hold}
 use Rattle.demands.proofs.Eprom.CounterAsSaid.{counter_as_said}
 use Rattle.demands.proofs.Eprom.HeldStreams.{held_boots}
@@ -127,7 +127,7 @@ module _ (l : Loader) where
     every_in_parts = subst InParts as_lent in_parts
 
     pub every_goes_on : GoesOn l
-    every_goes_on = subst GoesOn as_lent goes_on_lem
+    every_goes_on = subst GoesOn as_lent keeps_going
 
     pub every_boots : BootsHold l
     every_boots = subst BootsHold as_lent boots_lent

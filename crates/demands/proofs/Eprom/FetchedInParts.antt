@@ -14,7 +14,7 @@ use Rattle.eprom.specs.declared.Fetcher.{Fetcher}
 use Rattle.eprom.specs.Fetch.{Fetching, fetching, fetch_all, bytes_fetched}
 use Rattle.eprom.specs.Calls.{fetched_of, lent}
 use Rattle.eprom.proofs.Turns.{fetch_over}
-use Rattle.eprom.proofs.Parts.{fetch_sum, goes_on_lem as runs_on}
+use Rattle.eprom.proofs.Parts.{fetch_sum, keeps_going as runs_on}
 use Rattle.eprom.proofs.Again.{Ready, more_ready, past_ready}
 use Rattle.demands.specs.Loader.{AfterFetch}
 use Rattle.demands.specs.EpromBoards.{fetched, total, InParts, GoesOn}
@@ -71,9 +71,9 @@ parts_join (n ∷ ns) c f m e k u r h =
     ∙ ap (ours.fetch c f m e) (sym (add_assoc n (total ns) k)))
     (λ q. absurd (q (ap (λ (y : Fetching). y.run.number) (sym (all ∙ fetch_over e x q (total ns))) ∙ h)))
 
-pub goes_on_lem : GoesOn ours
+pub keeps_going : GoesOn ours
 unfolding fetched_of
-goes_on_lem c f m e d n k o g l u h =
+keeps_going c f m e d n k o g l u h =
     let r = ready c m f o g l in
     let q = sym (fetch_number_lem c f m e n r) ∙ h in
     let x = fetch_all e n (lent c m f) in

@@ -126,7 +126,7 @@ module _ (d : Chain) (f : Fetcher) (m e : List ℕ) (mode n : ℕ) (bs : List �
 pub held_boots : HeldBoots ours
 held_boots c f m e check mode n s ss i k l u fits h long =
     let mo = fetches-mode mode k in
-    let z = started c m mode check i.sound mo i.closed_place_lem in
+    let z = started c m mode check i.sound mo i.is_closed in
     let r : Ready (ours.start c m mode check).chain m f =
     subst (λ (y : Made). Ready y.chain m f) (sym z)
     (record { registers = i.registers; feeds = begun_feeds c m mode check i.sound mo; mode = k; counter = l.counter }) in

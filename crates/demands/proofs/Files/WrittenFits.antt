@@ -96,7 +96,7 @@ module _ (kind mode control a0 a1 a2 : ℕ) (ss es d out : List ℕ) (u : Bytes 
       record {
         windows = windows_from ss es d;
         fits = section_fits;
-        zero_nulls_lem = from-nulled ss es d;
+        nulls_zero = from-nulled ss es d;
         starts_are = from-starts ss es d tells.same;
         ends_are = from-ends ss es d tells.same;
         cells_are = cells_are;

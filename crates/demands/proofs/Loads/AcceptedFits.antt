@@ -36,7 +36,7 @@ module _ (c : Chain) (m : List ℕ) (check mode : ℕ) (bs : List ℕ) (i : Idle
 
   ran_is : ran ours check mode c m [] bs ≡ left (run_of (run from m more) bs)
   ran_is =
-      ap (λ (x : Made). ours.slice x.chain m bs) (started c m mode check i.sound o i.closed_place_lem)
+      ap (λ (x : Made). ours.slice x.chain m bs) (started c m mode check i.sound o i.is_closed)
       ∙ slice_is from m bs (begun_feeds c m mode check i.sound o)
 
   number_is : fed.answer.number ≡ (run_of (run from m more) bs).number
@@ -83,7 +83,7 @@ module _ (c : Chain) (m : List ℕ) (check mode : ℕ) (bs : List ℕ) (i : Idle
 pub ran-once : (c : Chain) (m : List ℕ) (check mode : ℕ) (ps : List (List ℕ)) (last : List ℕ) → Idle c m → Mode mode → Bytes (joined ps ++ last)
     → (ran ours check mode c m ps last).fed.answer.number ≡ done → ran ours check mode c m ps last ≡ ran ours check mode c m [] (joined ps ++ last)
 ran-once c m check mode ps last i o u z =
-    let e = ap (λ (r : Made). r.chain) (started c m mode check i.sound o i.closed_place_lem) in
+    let e = ap (λ (r : Made). r.chain) (started c m mode check i.sound o i.is_closed) in
     let h = subst (λ (d : Chain). (slices ours d m ps last).fed.answer.number ≡ done) e z in
     subst (λ (d : Chain). slices ours d m ps last ≡ ours.slice d m (joined ps ++ last)) (sym e)
     (slices_join ps (begun c mode check) m last (begun_feeds c m mode check i.sound o) i.registers

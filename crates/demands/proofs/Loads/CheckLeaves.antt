@@ -75,7 +75,7 @@ slices_leave (p ∷ ps) c m last small eight o =
 
 -- both go on, and leave the same registers
 record Alike (a b : AfterSlice) : Type 0 where
-  goes_on_lem : b.fed.answer.number ≡ more
+  keeps_going : b.fed.answer.number ≡ more
   registers : a.fed.chain.registers ≡ b.fed.chain.registers
 
 one_alike : (c : Chain) (m s : List ℕ) → feed_number c (length m) ≡ done → (ours.slice c m s).fed.answer.number ≡ more
@@ -85,7 +85,7 @@ one_alike c m s o h =
     let w = run-as_write s c m m g in
     let written = feed_as_write c (length m) o in
     record {
-      goes_on_lem = slice_number_lem (as_write c) m s written ∙ w.number;
+      keeps_going = slice_number_lem (as_write c) m s written ∙ w.number;
       registers = ap (λ (d : Chain). d.registers) (slice_goes c m s o g).0
           ∙ ap (λ (d : Chain). d.registers) (sym ((slice_goes (as_write c) m s written w.number).0 ∙ w.chain));
     }
@@ -121,7 +121,7 @@ module _ (c : Chain) (m : List ℕ) (check mode : ℕ) (ps : List (List ℕ)) (l
   put_in = leaves.regs ∙ run_stores registers bs opened m
 
   started_as : (sort : ℕ) → (ours.start c m mode sort).chain ≡ begun c mode sort
-  started_as sort = ap (λ (r : Made). r.chain) (started c m mode sort i.sound o i.closed_place_lem)
+  started_as sort = ap (λ (r : Made). r.chain) (started c m mode sort i.sound o i.is_closed)
 
   -- B3 of every register that our check leaves is as it was
   own_b3 : (d : ℕ) → B3 (get_or (ran ours check mode c m ps last).fed.chain.registers d 0) ≡ B3 (get_or c.registers d 0)
@@ -141,7 +141,7 @@ second_f c m check mode ps last i o u e =
       kinds = x.kinds ∙ a.kinds;
       regs = λ d l. ap (λ (y : List ℕ). get_or y d 0) r ∙ get_d_put_all registers (walk_of (begun c mode check) bs) c.registers d l;
       regs_many = ap length r ∙ length-put_all registers (walk_of (begun c mode check) bs) c.registers;
-      goes_on_lem = λ h. (b h).goes_on_lem;
+      keeps_going = λ h. (b h).keeps_going;
       as_written = λ h. (b h).registers;
     })
 

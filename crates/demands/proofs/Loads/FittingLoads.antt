@@ -98,7 +98,7 @@ module _ (c : Chain) (m : List ℕ) (check mode : ℕ) (s : Section) (ss : List 
 
 pub second_a : Demand2a ours
 second_a c m check mode s ss i k f =
-    let e = started c m mode check i.sound k i.closed_place_lem in
+    let e = started c m mode check i.sound k i.is_closed in
     record {
       started = ap (λ (r : Made). r.number) e;
       whole = λ ps b last rest q.

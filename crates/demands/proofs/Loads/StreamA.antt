@@ -39,7 +39,7 @@ zeros-bytes (suc n) = (lit< tt, zeros-bytes n)
 pub idle-teaching : Idle teaching cells0
 unfolding state_number is_bad_chain is_ill_formed unused_zero is_well_formed known_of base_of size_of
 idle-teaching =
-    record { kinds = refl; registers = refl; register_bytes = zeros-bytes 8; memory_bytes = zeros-bytes 52; sound = refl; closed_place_lem = refl }
+    record { kinds = refl; registers = refl; register_bytes = zeros-bytes 8; memory_bytes = zeros-bytes 52; sound = refl; is_closed = refl }
 
 pub mode-one : Mode 1
 mode-one = record { least = omega arith; most = omega arith }

@@ -122,7 +122,7 @@ module _ (l : Loader) (meets : Demand2a l) (c : Chain) (m : List ℕ) (mode : �
               subst (λ (v : ℕ). v < 256) (sym (seen.cells i (omega (arith, h, seen.cells_many))))
               (last_small memory xs i (get_or m i 0) small (bytes-at m d.idle.memory_bytes i)));
           sound = closed-taken c' (length m') usable seen.running;
-          closed_place_lem = seen.running;
+          is_closed = seen.running;
         }
 
     pub sent-whole : SentWhole l c m u x

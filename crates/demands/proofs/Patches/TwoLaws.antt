@@ -97,7 +97,7 @@ module _ (l : Loader) (meets : Demand2a l) (c : Chain) (m : List ℕ) (d : Devic
       let g = (read_fits c d.one n t q.reading).fit in
       record {
         one_order = a.loads;
-        other_order_lem = b.loads;
+        in_other_order = b.loads;
         memory =
             same-cells (length m) (left_by_both l c m x y).memory (left_by_both l c m y' x').memory a.cells_many b.cells_many
             (λ i h. a.cells i h ∙ swapped (size_at c 0) (windows_in p) (windows_in q) f g none i (get_or m i 0) ∙ sym (b.cells i h));

@@ -54,7 +54,7 @@ device =
             register_bytes = bytes_below (replicate 8 0) refl;
             memory_bytes = bytes_below parked refl;
             sound = refl;
-            closed_place_lem = refl;
+            is_closed = refl;
           };
       clear = refl;
     }
@@ -143,9 +143,9 @@ pub one_order : (left_by_both ours teaching parked cut_s once_t).memory ≡ cell
 unfolding size_of base_of known_of is_bad_chain unused_zero is_well_formed is_ill_formed state_number feed_number number_of passed_of advance_of address_of memory_of registers_of missed_of step_of run_of start_number start_of fed_of slice_of slice_memory
 one_order = refl
 
-pub other_order_lem : (left_by_both ours teaching parked cut_t once_s).memory ≡ cells_st
+pub in_other_order : (left_by_both ours teaching parked cut_t once_s).memory ≡ cells_st
 unfolding size_of base_of known_of is_bad_chain unused_zero is_well_formed is_ill_formed state_number feed_number number_of passed_of advance_of address_of memory_of registers_of missed_of step_of run_of start_number start_of fed_of slice_of slice_memory
-other_order_lem = refl
+in_other_order = refl
 
 -- ---- a shared cell: the order matters, to every loader that meets clause (a)
 

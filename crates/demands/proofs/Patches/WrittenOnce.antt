@@ -216,7 +216,7 @@ module _ (l : Loader) (a : Demand2a l) (r : Demand2c l) (c : Chain) (m : List �
         stream_is =
             let w = wrote in
             let ws-are : w.windows ≡ u.windows =
-            only_windows (size_at c 0) w.windows u.windows w.fits.fit u_fits.fit w.zero_nulls_lem u_same w.starts_are w.ends_are w.cells_are in
+            only_windows (size_at c 0) w.windows u.windows w.fits.fit u_fits.fit w.nulls_zero u_same w.starts_are w.ends_are w.cells_are in
             w.given_are
             ∙ ap (λ (ws : List Window). bytes_of (stream_sent no_chain o (section_of u.control address ws) [])) ws-are
             ∙ any-chain no_chain c o u

@@ -38,7 +38,7 @@ welcomes_two =
             register_bytes = bytes_below two.registers refl;
             memory_bytes = bytes_below cells refl;
             sound = refl;
-            closed_place_lem = refl;
+            is_closed = refl;
           };
       first = refl;
       clear = refl;

@@ -102,7 +102,7 @@ module _ (c : Chain) (m : List ℕ) (mode : ℕ) (bs : List ℕ) (idle : Idle c 
   o = begun c mode writing
 
   accepted : Accepted o bs
-  accepted = whole-accepted c m mode idle.sound idle.closed_place_lem k bs w
+  accepted = whole-accepted c m mode idle.sound idle.is_closed k bs w
 
   feeds : feed_number o (length m) ≡ done
   feeds = begun_feeds c m mode writing idle.sound k
@@ -161,8 +161,8 @@ module _ (c : Chain) (m : List ℕ) (mode : ℕ) (bs : List ℕ) (idle : Idle c 
     shuts_all =
         let y = shuts stop.chain stop.memory stop_open in
         let fresh = load-over shut stop.memory mode shut_sound refl k bs again.accepted in
-        let unbroken = load-over c m mode idle.sound idle.closed_place_lem k bs accepted in
-        let all = whole-taken c m mode idle.sound idle.closed_place_lem k bs w in
+        let unbroken = load-over c m mode idle.sound idle.is_closed k bs accepted in
+        let all = whole-taken c m mode idle.sound idle.is_closed k bs w in
         subst (λ (t : AfterSlice). Shut ours mode bs (load ours mode c m bs) (going stop) t)
         (sym (slice_shut stop.chain stop.memory cs stop_feeds y))
         (record {
@@ -202,7 +202,7 @@ module _ (c : Chain) (m : List ℕ) (mode : ℕ) (bs : List ℕ) (idle : Idle c 
     cut : (ps : List (List ℕ)) (last : List ℕ) → joined ps ++ last ≡ take j bs → slices ours (ours.start c m mode writing).chain m ps last ≡ going stop
     cut ps last q =
         let n : (run_of (run o m more) (joined ps ++ last)).number ≡ more = ap (λ (y : List ℕ). (run_of (run o m more) y).number) q ∙ stop-more in
-        ap (λ (r : Made). slices ours r.chain m ps last) (started c m mode writing idle.sound k idle.closed_place_lem)
+        ap (λ (r : Made). slices ours r.chain m ps last) (started c m mode writing idle.sound k idle.is_closed)
         ∙ slices_join ps o m last feeds idle.registers (bytes-front (joined ps) last (subst Bytes (sym q) (bytes_take j bs small)))
         (open_front (joined ps) last (run o m more) n)
         ∙ ap (λ (y : List ℕ). ours.slice o m y) q

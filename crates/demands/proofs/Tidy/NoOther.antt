@@ -78,7 +78,7 @@ module _ (c : Chain) (m s u : List ℕ) (d : Device c m) (a : Accepted c s) (p :
   own_section_lem : tidy_one (size_at c 0) (section p.accepted) ≡ section p.accepted
   own_section_lem =
       let e : tidy_windows (size_at c 0) (windows p.accepted) ≡ windows p.accepted =
-      tidy_already (size_at c 0) (windows p.accepted) (fits c m d u p.accepted).fit p.gaps ∙ p.zero_nulls_lem in
+      tidy_already (size_at c 0) (windows p.accepted) (fits c m d u p.accepted).fit p.gaps ∙ p.nulls_zero in
       rw e
 
   own-bytes : written_bytes c m d u p.accepted ≡ u

@@ -92,7 +92,7 @@ device_with c m n d e u =
             register_bytes = d.idle.register_bytes;
             memory_bytes = u;
             sound = ap (state_number c) e ∙ d.idle.sound;
-            closed_place_lem = d.idle.closed_place_lem;
+            is_closed = d.idle.is_closed;
           };
       clear = d.clear;
     }

@@ -59,7 +59,7 @@ module _ (kind : ℕ) (known : size_of kind ≡ 0 → ⊥) where
         register_bytes = zeros-bytes 8;
         memory_bytes = zeros-bytes (size_of kind);
         sound = rw (fresh-formed kind known, kinds_kept kind known, length-replicate {A = ℕ} (size_of kind) 0, good_chain kind known);
-        closed_place_lem = refl;
+        is_closed = refl;
       }
 
   own-ran : (s : List ℕ) → own_number kind first_mode s ≡ (ran ours writing first_mode fresh zeros [] s).fed.answer.number

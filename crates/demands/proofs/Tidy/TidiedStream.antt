@@ -133,7 +133,7 @@ module _ (c : Chain) (m : List ℕ) (d : Device c m) (s : List ℕ) (a : Accepte
         accepted = tidy_accepted;
         head = record { control = refl; address0 = refl; address1 = refl; address2 = refl };
         gaps = tidy_gaps size (windows a);
-        zero_nulls_lem = tidy_nulled size (windows a);
+        nulls_zero = tidy_nulled size (windows a);
         cells = λ i.
             let e = tidy_covered size (windows a) fits.fit i in
             let p = m-covered (windows a) i in

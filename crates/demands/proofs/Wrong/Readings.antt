@@ -106,7 +106,7 @@ disabled = record { count = 1; kinds = replicate 8 0; registers = 0x08 ∷ repli
 idle-disabled : Idle disabled cells0
 unfolding state_number is_bad_chain is_ill_formed unused_zero is_well_formed known_of base_of size_of
 idle-disabled =
-    record { kinds = refl; registers = refl; register_bytes = (lit< tt, zeros-bytes 7); memory_bytes = zeros-bytes 52; sound = refl; closed_place_lem = refl }
+    record { kinds = refl; registers = refl; register_bytes = (lit< tt, zeros-bytes 7); memory_bytes = zeros-bytes 52; sound = refl; is_closed = refl }
 
 pub check_writes_out : Demand2f check_writes → ⊥
 unfolding size_of base_of known_of is_bad_chain unused_zero is_well_formed is_ill_formed state_number feed_number number_of passed_of advance_of address_of memory_of registers_of missed_of step_of run_of start_number start_of fed_of slice_of slice_memory
