@@ -43,12 +43,14 @@ bare_on c b bs e = run_went c [] b bs e ∙ rw (no_memory c b)
 
 bare_accepted : (bs : List ℕ) (c : Chain) → Accepted c bs → (run_of (run c [] more) bs).number ≡ done
 bare_accepted (b ∷ []) c (last e) = ap (λ (r : Run). r.number) (run-ended c [] b [] (done-over e)) ∙ e
+bare_accepted [] c x' = elim x' [ ]
 bare_accepted (b ∷ bs) c (next e a) = ap (λ (r : Run). r.number) (bare_on c b bs e) ∙ bare_accepted bs (went_on c [] b) a
 
 pub accepted-done : (bs : List ℕ) (c : Chain) (m : List ℕ) → Accepted c bs → (run_of (run c m more) bs).number ≡ done
 accepted-done bs c m a = (blind bs c [] m).number ∙ bare_accepted bs c a
 
 bare_open : (k : ℕ) (bs : List ℕ) (c : Chain) → Accepted c bs → k < length bs → (run_of (run c [] more) (take k bs)).number ≡ more
+bare_open (suc k) [] c a h = elim a [ ]
 bare_open zero bs c a h = unfold run_of in refl
 bare_open (suc k) (b ∷ []) c (last e) h = absurd (not-suc-le-zero (le_of_suc-le-suc h))
 bare_open (suc k) (b ∷ bs) c (next e a) h =
@@ -60,6 +62,7 @@ accepted_open k bs c m a h = (blind (take k bs) c [] m).number ∙ bare_open k b
 
 -- its walk has all its bytes
 pub accepted-bytes : (bs : List ℕ) (c : Chain) → Accepted c bs → bytes_of (walk_of c bs) ≡ bs
+accepted-bytes [] c x' = elim x' [ ]
 accepted-bytes (b ∷ []) c (last e) = rw (walk_over c b [] (done-over e))
 accepted-bytes (b ∷ bs) c (next e a) = rw (walk_on c b bs e) (ap (λ (l : List ℕ). b ∷ l) (accepted-bytes bs (went_on c [] b) a))
 

@@ -91,6 +91,8 @@ module _ (c : Chain) (b : ℕ) where
 walk_let : (bs : List ℕ) (c : Chain) (len : ℕ) → Sound c len → length c.registers ≡ most_devices → Bytes bs → Accepted c bs
     → LetAlong (writes c) c.registers (walk_of c bs)
 unfolding walk_of
+walk_let [] c len s l u x4 = elim x4 [ ]
+walk_let (b ∷ []) c len s l u (next e a) = elim a [ ]
 walk_let (b ∷ []) c len s l u (last e) = rw e (tt, tt)
 walk_let (b ∷ x ∷ bs) c len s l u (next e a) =
     let r = walk_let (x ∷ bs) (went_on c [] b) len (went_sound c [] b len u.0 l e s) (registers-length c [] b ∙ l) u.1 a in

@@ -99,6 +99,7 @@ on-next c b bs e a = record { byte = b; rest = bs; is = refl; tells = clean_of c
 
 -- it goes on wherever the check byte is not awaited
 pub on : (c : Chain) (bs : List ℕ) → awaits c at_check ≡ false → Accepted c bs → GoesOn c bs
+on c [] w x'' = elim x'' [ ]
 on c (b ∷ []) w (last e) = absurd (false≢true (rw w at (finished c b e)))
 on c (b ∷ bs) w (next e a) = on-next c b bs e a
 
@@ -108,6 +109,7 @@ pub data AtCheck (c : Chain) (bs : List ℕ) : Type 0 where
   onward : GoesOn c bs → AtCheck c bs
 
 pub at_check_lem : (c : Chain) (bs : List ℕ) → awaits c at_check ≡ true → Accepted c bs → AtCheck c bs
+at_check_lem c [] w x'' = elim x'' [ ]
 at_check_lem c (b ∷ []) w (last e) = over (walk_over c b [] (done-over e) ∙ rw (eqb-true b postamble (rw w at (finished c b e))))
 at_check_lem c (b ∷ bs) w (next e a) = onward (on-next c b bs e a)
 

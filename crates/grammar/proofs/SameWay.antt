@@ -108,6 +108,7 @@ module _ (c : Chain) (h : List ℕ) (b : ℕ) where
 -- over registers that bar no more, a write that is accepted is accepted, with every byte aimed where it was
 pub same_way : (bs : List ℕ) (o : Chain) (h : List ℕ) → writes o ≡ true → Accepted o bs → length h ≡ length o.registers → Freer o.registers h
     → Accepted (with_registers o h) bs × (walk_of (with_registers o h) bs ≡ walk_of o bs)
+same_way [] o h w x4 l f = elim x4 [ ]
 same_way (b ∷ []) o h w (last e) l f =
     let n : number_of (with_registers o h) b ≡ done = number_same o h b w f (λ q. omega arith) ∙ e in
     (last n, walk_over (with_registers o h) b [] (done-over n) ∙ sym (walk_over o b [] (done-over e)))
