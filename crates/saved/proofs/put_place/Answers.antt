@@ -12,9 +12,6 @@ use Rattle.saved.proofs.Pieces.{all, cut, groups, written, fit_rows, numbers_are
 use borrow.Author.Rules.{rules}
 use Rattle.saved.proofs.put_place.Goals as goal
 
-eight : (s : tie.Start) → length s.args.t3 ≡ 8
-eight s = search rules
-
 pub shape_of-out : goal.shape_of-out
 shape_of-out c =
     let g = c.args.registers in
@@ -30,7 +27,8 @@ returns c =
     let numbers = fit_rows a.form g a.p number_rows (register_rows ++ ((control takes 8) ∷ [])) c.requires.fit in
     let others = fit_rows a.form g a.p register_rows ((control takes 8) ∷ []) numbers.1 in
     let bytes_of = numbers_are a.form g a.p numbers.0 in
-    let kept = sym (fields_packed (bytes 8) (values a.form register_rows g a.p) others.0 ∙ elems_is 0 8 g (sym (eight s))) in
+    let eight : length g ≡ 8 = search rules in
+    let kept = sym (fields_packed (bytes 8) (values a.form register_rows g a.p) others.0 ∙ elems_is 0 8 g (sym eight)) in
     let end = sym (fields_packed (bytes 1) (a.p.control ∷ []) others.1) in
     ap (λ (l : List ℕ). set l last a.p.control) (laid_on _ _ g at c.copy.ensures (search rules) _ c.put_numbers.ensures)
     ∙ (λ k. sets (sets (sets out 0 (bytes_of k)) at (kept k)) last (end k))

@@ -14,26 +14,6 @@ use Rattle.saved.proofs.Answers.{writes-off, writes-on, save_refused, save-asked
 use borrow.Author.Rules.{rules}
 use Rattle.saved.proofs.save.Goals as goal
 
--- what is known of the state's fields, where the function starts
-register : (s : tie.Start) (i : ℕ) → get_or s.args.c.registers i 0 < 2 ^ 8
-register s i = let f : Fits w8 (get_or s.args.c.registers i 0) = search rules in f.fits
-
-ranged : (s : tie.Start) → Ranged s.args.c.registers s.args.c.place
-ranged s =
-    record {
-      eight = search rules;
-      register = register s;
-      left = search rules;
-      control = search rules;
-      start = search rules;
-      end = search rules;
-      taken = search rules;
-      mismatches = search rules;
-    }
-
-next : (s : tie.Start) → s.args.c.place.next < 2 ^ 16
-next s = search rules
-
 pub returns-then-n-ne-DONE : goal.returns-then-n-ne-DONE
 returns-then-n-ne-DONE c =
     let a = c.args in
@@ -55,7 +35,20 @@ put_place-requires c =
     let len = length a.mem.now in
     let o = open_none a.c len e in
     let n = narrow a.c len a.c.registers a.c.place o.0 (open_well a.c o.1.0 o.1.1.0).1 in
-    record { fit = fits 1 a.c.registers a.c.place (lit< tt) (ranged s) n (next s); saved_length_in_bounds = c.if-out-lt-SAVED_LENGTH.false }
+    let register : (i : ℕ) → get_or a.c.registers i 0 < 2 ^ 8 = λ i. (let f : Fits w8 (get_or a.c.registers i 0) = search rules in f.fits) in
+    let ranged : Ranged a.c.registers a.c.place =
+        record {
+          eight = search rules;
+          register = register;
+          left = search rules;
+          control = search rules;
+          start = search rules;
+          end = search rules;
+          taken = search rules;
+          mismatches = search rules;
+        } in
+    let next : a.c.place.next < 2 ^ 16 = search rules in
+    record { fit = fits 1 a.c.registers a.c.place (lit< tt) ranged n next; saved_length_in_bounds = c.if-out-lt-SAVED_LENGTH.false }
 
 pub returns : goal.returns
 unfolding saved_in
