@@ -17,12 +17,11 @@ use Rattle.chain.specs.Paper.{closed, opened, done, ill_formed}
 use Rattle.chain.specs.Rules.{all_of}
 use Rattle.chain.specs.Set.{with_running}
 use Rattle.chain.specs.State.{is_bad_chain, is_ill_formed, is_well_formed, state_rules, open_rules, state_number, open_number}
-use Rattle.chain.specs.Output.{over}
-use Rattle.chain.proofs.AllOf.{Each, none, ◌and◌, all_each}
+use Rattle.chain.proofs.AllOf.{Each, ◌and◌, all_each}
 use Rattle.chain.proofs.FirstOf.{first-none, none_first}
 use Rattle.chain.proofs.Means.{says, reads}
 use Rattle.saved.specs.Fields.{total, Fit, recut, bytes}
-use Rattle.saved.specs.Layout.{Field, form, zero, placed, register, Row, ◌takes◌, Form, form1, rows, widths, values, length_in, saved_in, held_in, place_of, place_in, registers_of, registers_in, marks, saved_length, saved_bytes, well_saved_in, well_saved}
+use Rattle.saved.specs.Layout.{form, zero, placed, register, Row, ◌takes◌, Form, form1, rows, widths, values, length_in, saved_in, held_in, place_of, place_in, registers_of, registers_in, marks, saved_length, saved_bytes, well_saved_in, well_saved}
 use Rattle.saved.specs.Calls.{save_rules, save_number, save_of, save_output, pick_up_rules, pick_up_number, picked_up, pick_up_of, Save, PickUp}
 use Rattle.saved.proofs.Packing.{through}
 use Rattle.saved.proofs.Regroup.{elems_is}

@@ -37,16 +37,16 @@ put_place-requires c =
     let n = narrow a.c len a.c.registers a.c.place o.0 (open_well a.c o.1.0 o.1.1.0).1 in
     let register : (i : ℕ) → get_or a.c.registers i 0 < 2 ^ 8 = λ i. (let f : Fits w8 (get_or a.c.registers i 0) = search rules in f.fits) in
     let ranged : Ranged a.c.registers a.c.place =
-        record {
-          eight = search rules;
-          register = register;
-          left = search rules;
-          control = search rules;
-          start = search rules;
-          end = search rules;
-          taken = search rules;
-          mismatches = search rules;
-        } in
+    record {
+      eight = search rules;
+      register = register;
+      left = search rules;
+      control = search rules;
+      start = search rules;
+      end = search rules;
+      taken = search rules;
+      mismatches = search rules;
+    } in
     let next : a.c.place.next < 2 ^ 16 = search rules in
     record { fit = fits 1 a.c.registers a.c.place (lit< tt) ranged n next; saved_length_in_bounds = c.if-out-lt-SAVED_LENGTH.false }
 
