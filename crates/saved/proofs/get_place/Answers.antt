@@ -33,7 +33,7 @@ overflow_cast-p-5 c =
 pub returns : goal.returns
 returns c =
     let s = c.args.s.now in
-    let byte : (i : ℕ) → get_or s i 0 < 2 ^ 8 = λ i. (c.shared_slice_known-1.given i).fits in
+    let byte : (i : ℕ) → get_or s i 0 < 2 ^ 8 = λ i. (c.type_inv.s i).fits in
     let at = byte_count number_rows in
     let last = byte_count (number_rows ++ register_rows) in
     let head = fields_of-one 32 (widths head_rows) (packed (bytes 4) (elems 0 4 s)) refl c.get32-head.ensures in

@@ -11,7 +11,7 @@ use Rattle.saved.proofs.get_registers.Goals as goal
 pub returns : goal.returns
 returns c =
     let s = c.args.s.now in
-    let byte : (i : ℕ) → get_or s i 0 < 2 ^ 8 = λ i. (c.shared_slice_known-1.given i).fits in
+    let byte : (i : ℕ) → get_or s i 0 < 2 ^ 8 = λ i. (c.type_inv.s i).fits in
     let at = byte_count number_rows in
     c.eight.ensures
     ∙ sym (fields_packed (bytes 8) (elems at 8 s) (fit_bytes s byte 8 at))

@@ -14,4 +14,4 @@ returns c =
     let s = c.args.s.now in
     let head = fields_of-one 32 (widths head_rows) (packed (bytes 4) (elems 0 4 s)) refl c.get32-head.ensures in
     ap (λ (v : List ℕ). all_of (marks form1.number rows (v ++ all cut (read s (byte_count head_rows) later_groups)))) head
-    ∙ ap (λ (v : List ℕ). all_of (marks form1.number rows v)) (sym (held_is s (λ i. (c.shared_slice_known-1.given i).fits) c.requires))
+    ∙ ap (λ (v : List ℕ). all_of (marks form1.number rows v)) (sym (held_is s (λ i. (c.type_inv.s i).fits) c.requires))
