@@ -21,7 +21,7 @@ pub returns-then-k-eq0 : goal.returns-then-k-eq0
 returns-then-k-eq0 c =
     let s = c.args.s.now in
     let p = c.args.p in
-    let byte = byte-whole_split s p (c.shared_slice_known-1.given (p / 8)).fits c.if-k-eq0.true in
+    let byte = byte-whole_split s p (c.type_inv.s (p / 8)).fits c.if-k-eq0.true in
     sym (begins_in s p (omega (arith, and_mask p 3)) ∙ ap (λ (x : ℕ). eqb x preamble) byte)
 
 pub bounds-s-q-3 : goal.bounds-s-q-3
@@ -37,5 +37,5 @@ pub returns : goal.returns
 returns c =
     let s = c.args.s.now in
     let p = c.args.p in
-    let byte = byte_split s p (c.shared_slice_known-1.given (p / 8)).fits in
+    let byte = byte_split s p (c.type_inv.s (p / 8)).fits in
     sym (begins_in s p (omega arith) ∙ ap (λ (x : ℕ). eqb x preamble) (byte ∙ sym c.joined.ensures))

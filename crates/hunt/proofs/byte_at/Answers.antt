@@ -15,14 +15,14 @@ pub returns-then-j-eq0 : goal.returns-then-j-eq0
 returns-then-j-eq0 c =
     let a = c.args in
     let e : 8 * a.q + a.k % 8 ≡ 8 * a.q = omega arith in
-    sym (ap (byte_at a.s.now) e ∙ byte-whole a.s.now a.q (c.shared_slice_known-1.given a.q).fits)
+    sym (ap (byte_at a.s.now) e ∙ byte-whole a.s.now a.q (c.type_inv.s a.q).fits)
 
 pub returns-then-n-q-eq1 : goal.returns-then-n-q-eq1
 returns-then-n-q-eq1 c =
     let a = c.args in
-    c.joined.ensures ∙ sym (byte_last a.s.now a.q (a.k % 8) (c.shared_slice_known-1.given a.q).fits (omega arith) (mod-lt a.k (lit< tt)))
+    c.joined.ensures ∙ sym (byte_last a.s.now a.q (a.k % 8) (c.type_inv.s a.q).fits (omega arith) (mod-lt a.k (lit< tt)))
 
 pub returns : goal.returns
 returns c =
     let a = c.args in
-    c.joined-2.ensures ∙ sym (byte_pair a.s.now a.q (c.shared_slice_known-1.given a.q).fits (a.k % 8) (mod-lt a.k (lit< tt)))
+    c.joined-2.ensures ∙ sym (byte_pair a.s.now a.q (c.type_inv.s a.q).fits (a.k % 8) (mod-lt a.k (lit< tt)))

@@ -22,7 +22,7 @@ returns-then-k-eq0 c =
     let split = place_split a.p in
     let at : a.p ≡ 8 * q = omega arith in
     let count : a.n ≡ length s - q = omega arith in
-    let part = bytes_part s (λ i. (c.shared_slice_known-1.given i).fits) (length s - q) q (omega arith) in
+    let part = bytes_part s (λ i. (c.type_inv.s i).fits) (length s - q) q (omega arith) in
     c.copy.ensures ∙ ap (sets a.out.now 0) (sym (ap₂ (bytes_from s) at count ∙ part))
 
 pub shift-requires : goal.shift-requires

@@ -26,7 +26,7 @@ returns-then-j-eq0 c =
     let w : whole_from s (8 * a.q + a.k % 8) ≡ length s - a.q = sym (whole_is s (8 * a.q + a.k % 8)) ∙ omega arith in
     let e : 8 * a.q + a.k % 8 ≡ 8 * a.q = omega arith in
     let z : a.q + n - a.q ≡ n = omega arith in
-    record { upper_bound = (l.1, omega arith, ⊎_swap w l.2); out_after = c.copy.ensures ∙ ap (sets a.out.now 0) (ap (λ (x : ℕ). take x (drop a.q s)) z ∙ sym (ap (λ (x : ℕ). bytes_from s x n) e ∙ bytes_part s (λ i. (c.shared_slice_known-1.given i).fits) n a.q (omega arith))) }
+    record { upper_bound = (l.1, omega arith, ⊎_swap w l.2); out_after = c.copy.ensures ∙ ap (sets a.out.now 0) (ap (λ (x : ℕ). take x (drop a.q s)) z ∙ sym (ap (λ (x : ℕ). bytes_from s x n) e ∙ bytes_part s (λ i. (c.type_inv.s i).fits) n a.q (omega arith))) }
 
 pub returns : goal.returns
 returns c =

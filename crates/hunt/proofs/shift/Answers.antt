@@ -43,7 +43,7 @@ loop-i-preserved c =
     let s = c.args.s.now in
     let at = c.args.q + l.i in
     let v = c.joined.result in
-    let bytes = c.shared_slice_known-1.given in
+    let bytes = c.type_inv.s in
     let e = c.joined.ensures ∙ sym (byte_pair s at (bytes at).fits c.args.k (omega arith)) in (
       omega arith,
       length-set l.out l.i v ∙ l.invariant.1,
