@@ -13,8 +13,7 @@ pub returns-then-k-eq-DONE : goal.returns-then-k-eq-DONE
 unfolding fetch_of fetch_memory
 returns-then-k-eq-DONE c =
     let n = c.number-k.ensures in
-    let w = (c.walk.ensures.value, c.walk.ensures.mem_after) in
-    record { answer = w.value ∙ simp (← n) (search tests); memory = w.mem_after ∙ simp (← n) (search tests) }
+    record { answer = c.walk.ensures.value ∙ simp (← n) (search tests); memory = c.walk.ensures.mem_after ∙ simp (← n) (search tests) }
 
 pub returns : goal.returns
 unfolding fetch_of fetch_memory

@@ -19,4 +19,4 @@ returns c =
     let a = c.args in
     let s = down_from a.e.now a.at a.n in
     let k = ap (λ (x : List ℕ). take a.n x) c.turn.ensures ∙ front_is s a.room.now a.n (down-length a.e.now a.at a.n) c.requires.2 in
-    (c.taken.ensures.value ∙ ap (λ (t : List ℕ). fed_of (run_of (run a.c a.mem.now more) t)) k, (c.taken.ensures.mem_after ∙ ap (λ (t : List ℕ). (run_of (run a.c a.mem.now more) t).memory) k, ap (λ (x : List ℕ). length x) c.turn.ensures ∙ length-sets a.room.now 0 s))
+    record { value = c.taken.ensures.value ∙ ap (λ (t : List ℕ). fed_of (run_of (run a.c a.mem.now more) t)) k; mem_after = c.taken.ensures.mem_after ∙ ap (λ (t : List ℕ). (run_of (run a.c a.mem.now more) t).memory) k; room_len_unchanged = ap (λ (x : List ℕ). length x) c.turn.ensures ∙ length-sets a.room.now 0 s }

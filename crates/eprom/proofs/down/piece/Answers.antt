@@ -1,9 +1,6 @@
 use Rattle.std.proofs.Common.{⊎_elim, arith}
 use Rattle.eprom.proofs.down.piece.Goals as goal
 
-pub overflow_add-at : goal.overflow_add-at
-overflow_add-at c = add-least c
-
 pub returns : goal.returns
 returns c =
     let q = c.least.ensures in

@@ -44,8 +44,7 @@ ended-h-requires c =
     let g = with_counter a.f c.loop-left.k in
     let o = c.piece-m.ensures in
     let t = down_turn c.loop-left.d g a.e.now c.piece-m.result l.0 l.2 (rw l.1 c.requires.2) (omega (arith, c.if-have-at.false)) o.0 o.2 in
-    let fd = (c.fed_down-r.ensures.value, c.fed_down-r.ensures.mem_after, c.fed_down-r.ensures.room_len_unchanged) in
-    let told = c.wrapping_sub_u32-u.ensures.value ∙ ap (λ (x : Fed). x.answer.taken) fd.value in
+    let told = c.wrapping_sub_u32-u.ensures.value ∙ ap (λ (x : Fed). x.answer.taken) c.fed_down-r.ensures.value in
     (subst (λ (y : Fetcher). y.counter ≤ last_count) (sym c.with_counter-then-r-ne-MORE.ensures) l.0.counter, few_used c.loop-left.d c.loop-left.mem g a.e.now c.piece-m.result t c.wrapping_sub_u32-u.result (search rules) told)
 
 pub shape_of-mem-then-r-ne-MORE : goal.shape_of-mem-then-r-ne-MORE
@@ -64,11 +63,10 @@ returns-then-r-ne-MORE c =
     let g = with_counter a.f c.loop-left.k in
     let o = c.piece-m.ensures in
     let t = down_turn c.loop-left.d g a.e.now c.piece-m.result l.0 l.2 (rw l.1 c.requires.2) (omega (arith, c.if-have-at.false)) o.0 o.2 in
-    let fd = (c.fed_down-r.ensures.value, c.fed_down-r.ensures.mem_after, c.fed_down-r.ensures.room_len_unchanged) in
-    let told = c.wrapping_sub_u32-u.ensures.value ∙ ap (λ (x : Fed). x.answer.taken) fd.value in
-    let x = rest-ends c.loop-left.d c.loop-left.mem g a.e.now c.piece-m.result t c.wrapping_sub_u32-u.result (search rules) told (λ n. c.if-r-ne-MORE.true (ap (λ (y : Fed). y.answer.number) fd.value ∙ n)) c.loop-left.left o.1 in
+    let told = c.wrapping_sub_u32-u.ensures.value ∙ ap (λ (x : Fed). x.answer.taken) c.fed_down-r.ensures.value in
+    let x = rest-ends c.loop-left.d c.loop-left.mem g a.e.now c.piece-m.result t c.wrapping_sub_u32-u.result (search rules) told (λ n. c.if-r-ne-MORE.true (ap (λ (y : Fed). y.answer.number) c.fed_down-r.ensures.value ∙ n)) c.loop-left.left o.1 in
     let h = c.ended-h.ensures ∙ ap (λ (y : Fetcher). ended_to a.c.place y c.wrapping_sub_u32-u.result a.f) c.with_counter-then-r-ne-MORE.ensures ∙ ap (λ (y : ℕ). ended_from y c.loop-left.k c.wrapping_sub_u32-u.result a.f) (sym l.1) in
-    record { value = c.joined.ensures ∙ joined_is _ _ _ _ fd.value h ∙ x.0 ∙ ap fetched_of (sym l.5); mem_after = fd.mem_after ∙ x.1 ∙ ap (λ (y : Fetching). y.run.memory) (sym l.5) }
+    record { value = c.joined.ensures ∙ joined_is _ _ _ _ c.fed_down-r.ensures.value h ∙ x.0 ∙ ap fetched_of (sym l.5); mem_after = c.fed_down-r.ensures.mem_after ∙ x.1 ∙ ap (λ (y : Fetching). y.run.memory) (sym l.5) }
 
 pub further-k-requires : goal.further-k-requires
 further-k-requires c =
@@ -77,8 +75,7 @@ further-k-requires c =
     let g = with_counter a.f c.loop-left.k in
     let o = c.piece-m.ensures in
     let t = down_turn c.loop-left.d g a.e.now c.piece-m.result l.0 l.2 (rw l.1 c.requires.2) (omega (arith, c.if-have-at.false)) o.0 o.2 in
-    let fd = (c.fed_down-r.ensures.value, c.fed_down-r.ensures.mem_after, c.fed_down-r.ensures.room_len_unchanged) in
-    let told = c.wrapping_sub_u32-u.ensures.value ∙ ap (λ (x : Fed). x.answer.taken) fd.value in
+    let told = c.wrapping_sub_u32-u.ensures.value ∙ ap (λ (x : Fed). x.answer.taken) c.fed_down-r.ensures.value in
     (l.0.counter, few_used c.loop-left.d c.loop-left.mem g a.e.now c.piece-m.result t c.wrapping_sub_u32-u.result (search rules) told)
 
 pub overflow_sub-left : goal.overflow_sub-left
@@ -96,10 +93,9 @@ loop-left-preserved c =
     let g = with_counter a.f c.loop-left.k in
     let o = c.piece-m.ensures in
     let t = down_turn c.loop-left.d g a.e.now c.piece-m.result l.0 l.2 (rw l.1 c.requires.2) (omega (arith, c.if-have-at.false)) o.0 o.2 in
-    let fd = (c.fed_down-r.ensures.value, c.fed_down-r.ensures.mem_after, c.fed_down-r.ensures.room_len_unchanged) in
-    let told = c.wrapping_sub_u32-u.ensures.value ∙ ap (λ (x : Fed). x.answer.taken) fd.value in
-    let x = rest_again c.loop-left.d c.loop-left.mem g a.e.now c.piece-m.result t c.wrapping_sub_u32-u.result (search rules) told c.fed_down-r.result fd.value _ fd.mem_after a.c.place.mode _ l.1 c.further-k.ensures c.if-r-ne-MORE.false c.loop-left.left o.1 in
-    (x.0, x.1, x.2, x.3 ∙ l.3, fd.room_len_unchanged ∙ l.4, l.5 ∙ x.4)
+    let told = c.wrapping_sub_u32-u.ensures.value ∙ ap (λ (x : Fed). x.answer.taken) c.fed_down-r.ensures.value in
+    let x = rest_again c.loop-left.d c.loop-left.mem g a.e.now c.piece-m.result t c.wrapping_sub_u32-u.result (search rules) told c.fed_down-r.result c.fed_down-r.ensures.value _ c.fed_down-r.ensures.mem_after a.c.place.mode _ l.1 c.further-k.ensures c.if-r-ne-MORE.false c.loop-left.left o.1 in
+    (x.0, x.1, x.2, x.3 ∙ l.3, c.fed_down-r.ensures.room_len_unchanged ∙ l.4, l.5 ∙ x.4)
 
 pub shape_of-mem : goal.shape_of-mem
 shape_of-mem c = c.loop-left.invariant.3

@@ -32,14 +32,12 @@ rest-requires c =
 pub shape_of-mem-then-is_rest : goal.shape_of-mem-then-is_rest
 shape_of-mem-then-is_rest c =
     let l = c.loop-left.invariant in
-    let p = (c.rest.ensures.value, c.rest.ensures.mem_after) in
     search rules
 
 pub returns-then-is_rest : goal.returns-then-is_rest
 returns-then-is_rest c =
     let l = c.loop-left.invariant in
-    let p = (c.rest.ensures.value, c.rest.ensures.mem_after) in
-    record { value = p.value ∙ ap fetched_of (sym l.3); mem_after = p.mem_after ∙ ap (λ (y : Fetching). y.run.memory) (sym l.3) }
+    record { value = c.rest.ensures.value ∙ ap fetched_of (sym l.3); mem_after = c.rest.ensures.mem_after ∙ ap (λ (y : Fetching). y.run.memory) (sym l.3) }
 
 pub reach-requires : goal.reach-requires
 reach-requires c = (search rules, c.loop-left.invariant.0.counter)
@@ -87,9 +85,8 @@ returns-then-r-ne-MORE c =
     let long = part_length c.loop-left.d.place.mode a.e.now c.loop-left.g.counter c.free-k.result reach in
     let b : Block c.loop-left.d c.loop-left.g s = record { going = l.0; free = f.2; some = omega (arith, long, f.0); most = omega (arith, long, r.few) } in
     let reads = part_reads c.loop-left.d.place.mode a.e.now c.loop-left.g.counter c.free-k.result l.0.counter reach in
-    let p = (c.part-r.ensures.value, c.part-r.ensures.mem_after) in
-    let x = l.3 ∙ turn_ends c.loop-left.d c.loop-left.mem c.loop-left.g a.e.now c.free-k.result s long b reads c.loop-left.left (omega (arith, f.1, c.least.ensures.0)) (λ n. c.if-r-ne-MORE.true (ap (λ (y : Fetched). y.answer.number) p.value ∙ n)) in
-    record { value = p.value ∙ ap fetched_of (sym x); mem_after = p.mem_after ∙ ap (λ (y : Fetching). y.run.memory) (sym x) }
+    let x = l.3 ∙ turn_ends c.loop-left.d c.loop-left.mem c.loop-left.g a.e.now c.free-k.result s long b reads c.loop-left.left (omega (arith, f.1, c.least.ensures.0)) (λ n. c.if-r-ne-MORE.true (ap (λ (y : Fetched). y.answer.number) c.part-r.ensures.value ∙ n)) in
+    record { value = c.part-r.ensures.value ∙ ap fetched_of (sym x); mem_after = c.part-r.ensures.mem_after ∙ ap (λ (y : Fetching). y.run.memory) (sym x) }
 
 pub overflow_sub-left : goal.overflow_sub-left
 overflow_sub-left c =
@@ -112,8 +109,7 @@ loop-left-preserved c =
     let long = part_length c.loop-left.d.place.mode a.e.now c.loop-left.g.counter c.free-k.result reach in
     let b : Block c.loop-left.d c.loop-left.g s = record { going = l.0; free = f.2; some = omega (arith, long, f.0); most = omega (arith, long, r.few) } in
     let reads = part_reads c.loop-left.d.place.mode a.e.now c.loop-left.g.counter c.free-k.result l.0.counter reach in
-    let p = (c.part-r.ensures.value, c.part-r.ensures.mem_after) in
-    let t = turn c.loop-left.d c.loop-left.mem c.loop-left.g a.e.now c.free-k.result s long b reads c.part-r.result p.value _ p.mem_after c.loop-left.left (omega (arith, f.1, c.least.ensures.0)) c.if-r-ne-MORE.false in
+    let t = turn c.loop-left.d c.loop-left.mem c.loop-left.g a.e.now c.free-k.result s long b reads c.part-r.result c.part-r.ensures.value _ c.part-r.ensures.mem_after c.loop-left.left (omega (arith, f.1, c.least.ensures.0)) c.if-r-ne-MORE.false in
     (t.0, t.1 ∙ l.1, t.2 ∙ l.2, l.3 ∙ t.3)
 
 pub shape_of-mem : goal.shape_of-mem
