@@ -1,3 +1,4 @@
+use Prim.Native.Nat.{◌+◌}
 use mathlib.Core.Path.{ap, sym, ◌∙◌}
 use native.Mathlib.Omega.{arith}
 use borrow.Author.Tests.{eq-eqb, ne_eqb}
@@ -15,7 +16,7 @@ pub bounds-s-p : goal.bounds-s-p
 bounds-s-p c = let a = c.args in let h = head_done a.mode a.s.now (ap (λ (e : Stop). e.number) (sym c.head-h.ensures) ∙ c.if-h-ne-DONE.false) in omega arith
 
 pub overflow_sub-s : goal.overflow_sub-s
-overflow_sub-s c = sub-read-windows c
+overflow_sub-s c = omega (arith, c.type_inv.s (c.preamble_at-p.result + 5))
 
 pub returns-then-w-ne-DONE : goal.returns-then-w-ne-DONE
 unfolding stream_stop
