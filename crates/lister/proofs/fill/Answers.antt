@@ -35,14 +35,5 @@ loop-i-preserved c =
     let f = c.loop-i.invariant in
     filling_more f (search rules) (search rules) c.whole_window-w.result (c.whole_window-w.ensures ∙ sym (filling_whole f (search rules)).reads)
 
-pub shape_of-starts : goal.shape_of-starts
-shape_of-starts c = c.loop-i.invariant.starts_long
-
-pub shape_of-ends : goal.shape_of-ends
-shape_of-ends c = c.loop-i.invariant.ends_long
-
-pub shape_of-offsets : goal.shape_of-offsets
-shape_of-offsets c = c.loop-i.invariant.offsets_long
-
 pub returns : goal.returns
 returns c = filling_all c.loop-i.invariant (search rules)

@@ -9,10 +9,6 @@ loop-windows-init c =
     let a = c.args in
     keeping_none a.size a.s.now a.n a.reaches.now
 
-pub shape_of-reaches-then-w-ne-DONE : goal.shape_of-reaches-then-w-ne-DONE
-shape_of-reaches-then-w-ne-DONE c =
-    c.loop-windows.invariant.long
-
 pub returns-then-w-ne-DONE : goal.returns-then-w-ne-DONE
 returns-then-w-ne-DONE c =
     let a = c.args in
@@ -34,10 +30,6 @@ loop-windows-preserved c =
     let a = c.args in
     let l = c.loop-windows in
     keeping-more a.size a.s.now a.n a.reaches.now l.reaches l.at l.windows l.invariant _ c.read_window-w.ensures (search rules) c.if-w-ne-DONE.false
-
-pub shape_of-reaches : goal.shape_of-reaches
-shape_of-reaches c =
-    c.loop-windows.invariant.long
 
 pub returns : goal.returns
 returns c =

@@ -14,26 +14,15 @@ bounds-out-at c =
     let l = c.loop-i in
     null_there a.reaches.now a.out.now l.out l.at l.i l.invariant (search rules)
 
-pub overflow_cast-at : goal.overflow_cast-at
-overflow_cast-at c =
-    omega (arith, c.shared_slice_known-1.given c.loop-i.i)
-
 pub overflow_add-at : goal.overflow_add-at
 overflow_add-at c =
     omega (arith, c.shared_slice_known-1.given c.loop-i.i)
-
-pub overflow_add-at-in-loop-i : goal.overflow_add-at-in-loop-i
-overflow_add-at-in-loop-i c = add-at-2 c
 
 pub loop-i-preserved : goal.loop-i-preserved
 loop-i-preserved c =
     let a = c.args in
     let l = c.loop-i in
     putting_more a.reaches.now a.out.now l.out l.at l.i l.invariant (search rules) (c.shared_slice_known-1.given l.i).fits
-
-pub shape_of-out : goal.shape_of-out
-shape_of-out c =
-    c.loop-i.invariant.long
 
 pub returns : goal.returns
 returns c =

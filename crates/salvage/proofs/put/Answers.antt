@@ -2,7 +2,7 @@ use mathlib.Core.Path.{sym}
 use native.Mathlib.Omega.{arith}
 use lib.ListN.{take}
 use lib.Seq.{length-take-le}
-use Rattle.salvage.proofs.Laying.{second_long, last_there, same, laid}
+use Rattle.salvage.proofs.Laying.{second_long, last_there, laid}
 use Rattle.salvage.proofs.put.Goals as goal
 
 pub slice_bounds-copy-end : goal.slice_bounds-copy-end
@@ -24,11 +24,6 @@ pub bounds-out-offset : goal.bounds-out-offset
 bounds-out-offset c =
     let a = c.args in
     last_there a.s.now a.n (take a.n a.reaches.now) a.offset a.out.now c.requires.3 _ _ c.copy.ensures c.nulls_out.ensures
-
-pub shape_of-out : goal.shape_of-out
-shape_of-out c =
-    let a = c.args in
-    same a.s.now a.n (take a.n a.reaches.now) a.offset a.out.now c.requires.3 _ _ c.copy.ensures c.nulls_out.ensures
 
 pub returns : goal.returns
 returns c =

@@ -1,4 +1,3 @@
-use borrow.Author.Rules.{rules}
 use Prim.Native.Nat.{ℕ}
 use mathlib.Core.Path.{◌≡◌, refl, sym, ap, ap₂, subst, ◌∙◌}
 use mathlib.Core.List.{List, ◌∷◌}
@@ -58,12 +57,6 @@ rows-requires c =
     ap (λ (m : Made). m.chain) c.new-m.ensures.made ∙ ap (λ (k : ℕ). (new_of 1 (a.kind ∷ replicate 7 0) k).chain) l ∙ new_device a.kind x.known in
     let dev : device c.new-m.result.chain mem ≡ reset_device a.kind = ap₂ device ch z in
     (subst (λ (d : Device). Ready d.chain (length d.memory)) (sym dev) (reset_idle a.kind x.known).ready, x.mode_known, refl, refl, x.few, x.exact, x.short, x.room_numbers, x.room_figures)
-
-pub shape_of-numbers : goal.shape_of-numbers
-shape_of-numbers c = search (rules, c.rows.auto)
-
-pub shape_of-figures : goal.shape_of-figures
-shape_of-figures c = search (rules, c.rows.auto)
 
 pub returns : goal.returns
 returns c =

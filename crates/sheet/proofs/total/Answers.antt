@@ -9,9 +9,6 @@ use Rattle.sheet.proofs.total.Goals as goal
 pub loop-i-init : goal.loop-i-init
 loop-i-init c = (search rules, search rules, zero-add (sum c.args.lengths.now))
 
-pub overflow_cast-t : goal.overflow_cast-t
-overflow_cast-t c = omega (arith, c.shared_slice_known-1.given c.loop-i.i)
-
 pub overflow_add-t : goal.overflow_add-t
 overflow_add-t c = omega (arith, c.shared_slice_known-1.given c.loop-i.i)
 

@@ -12,8 +12,9 @@ use Rattle.sheet.proofs.Noted.{length_marked}
 use Rattle.sheet.proofs.Counted.{part_small, ordered_cells, ordered_again, cells-between, marks_count, cleared}
 use Rattle.sheet.proofs.row.count.Goals as goal
 
+-- `sheet::row::count` meets its contract. Assumes nothing.
 pub overflow_cast-result : goal.overflow_cast-result
-overflow_cast-result c = cast-t11 c
+overflow_cast-result c = omega (arith, c.requires.5.few)
 
 pub returns-then-w : goal.returns-then-w
 returns-then-w c =
@@ -49,7 +50,7 @@ slice_bounds-marked-end c =
     let top = a.w.top in
     let ys = c.clear.new.marks.0 in
     let le : length (put_mid low (top - low) m ys) ≡ length m = same_len_mid low (top - low) m ys (ap (λ (l : List ℕ). length l) c.clear.ensures ∙ length-replicate {A = ℕ} (length (take (top - low) (drop low m))) 0) in
-    let k = ap (λ (l : List ℕ). length l) c.walk.ensures.marks_left ∙ length_marked (puts_of a.c (bytes_after a.s.now a.p)) (put_mid low (top - low) m ys) ∙ le in
+    let k = ap (λ (l : List ℕ). length l) c.walk.ensures.marks-left ∙ length_marked (puts_of a.c (bytes_after a.s.now a.p)) (put_mid low (top - low) m ys) ∙ le in
     omega (arith, c.requires.5.inside, k)
 
 pub marked-cells-requires : goal.marked-cells-requires
@@ -60,7 +61,7 @@ marked-cells-requires c =
     let top = a.w.top in
     let ys = c.clear.new.marks.0 in
     let le : length (put_mid low (top - low) m ys) ≡ length m = same_len_mid low (top - low) m ys (ap (λ (l : List ℕ). length l) c.clear.ensures ∙ length-replicate {A = ℕ} (length (take (top - low) (drop low m))) 0) in
-    let k = ap (λ (l : List ℕ). length l) c.walk.ensures.marks_left ∙ length_marked (puts_of a.c (bytes_after a.s.now a.p)) (put_mid low (top - low) m ys) ∙ le in
+    let k = ap (λ (l : List ℕ). length l) c.walk.ensures.marks-left ∙ length_marked (puts_of a.c (bytes_after a.s.now a.p)) (put_mid low (top - low) m ys) ∙ le in
     part_small _ low top (omega (arith, c.requires.4, k))
 
 pub slice_bounds-marked-start-2 : goal.slice_bounds-marked-start-2
@@ -74,7 +75,7 @@ slice_bounds-marked-end-2 c =
     let top = a.w.top in
     let ys = c.clear.new.marks.0 in
     let le : length (put_mid low (top - low) m ys) ≡ length m = same_len_mid low (top - low) m ys (ap (λ (l : List ℕ). length l) c.clear.ensures ∙ length-replicate {A = ℕ} (length (take (top - low) (drop low m))) 0) in
-    let k = ap (λ (l : List ℕ). length l) c.walk.ensures.marks_left ∙ length_marked (puts_of a.c (bytes_after a.s.now a.p)) (put_mid low (top - low) m ys) ∙ le in
+    let k = ap (λ (l : List ℕ). length l) c.walk.ensures.marks-left ∙ length_marked (puts_of a.c (bytes_after a.s.now a.p)) (put_mid low (top - low) m ys) ∙ le in
     omega (arith, c.requires.5.inside, k)
 
 pub marked-again-requires : goal.marked-again-requires
@@ -85,7 +86,7 @@ marked-again-requires c =
     let top = a.w.top in
     let ys = c.clear.new.marks.0 in
     let le : length (put_mid low (top - low) m ys) ≡ length m = same_len_mid low (top - low) m ys (ap (λ (l : List ℕ). length l) c.clear.ensures ∙ length-replicate {A = ℕ} (length (take (top - low) (drop low m))) 0) in
-    let k = ap (λ (l : List ℕ). length l) c.walk.ensures.marks_left ∙ length_marked (puts_of a.c (bytes_after a.s.now a.p)) (put_mid low (top - low) m ys) ∙ le in
+    let k = ap (λ (l : List ℕ). length l) c.walk.ensures.marks-left ∙ length_marked (puts_of a.c (bytes_after a.s.now a.p)) (put_mid low (top - low) m ys) ∙ le in
     part_small _ low top (omega (arith, c.requires.4, k))
 
 pub shape_of-marks : goal.shape_of-marks
@@ -96,7 +97,7 @@ shape_of-marks c =
     let top = a.w.top in
     let ys = c.clear.new.marks.0 in
     let le : length (put_mid low (top - low) m ys) ≡ length m = same_len_mid low (top - low) m ys (ap (λ (l : List ℕ). length l) c.clear.ensures ∙ length-replicate {A = ℕ} (length (take (top - low) (drop low m))) 0) in
-    ap (λ (l : List ℕ). length l) c.walk.ensures.marks_left ∙ length_marked (puts_of a.c (bytes_after a.s.now a.p)) (put_mid low (top - low) m ys) ∙ le
+    ap (λ (l : List ℕ). length l) c.walk.ensures.marks-left ∙ length_marked (puts_of a.c (bytes_after a.s.now a.p)) (put_mid low (top - low) m ys) ∙ le
 
 pub returns : goal.returns
 returns c =
@@ -110,7 +111,7 @@ returns c =
     let after : List ℕ = put_mid low (top - low) m ys in
     let x = c.requires.5 in
     let z : (j : ℕ) → low ≤ j → j < top → get_or after j 0 ≡ 0 = λ j h g. ap (λ (l : List ℕ). get_or (put_mid low (top - low) m l) j 0) c.clear.ensures ∙ cleared m low top j h g x.inside in
-    let left = c.walk.ensures.marks_left in
+    let left = c.walk.ensures.marks-left in
     let told : (l : List ℕ) → l ≡ marked after ps → (k : ℕ) → 0 < k → k ≤ 2 → marks_from (take (top - low) (drop low l)) k 0 (length (take (top - low) (drop low l))) ≡ cells_stored (length m) k ps =
     λ l e k h g. ap (λ (y : List ℕ). marks_from (take (top - low) (drop low y)) k 0 (length (take (top - low) (drop low y)))) e
     ∙ marks_count ps after low top k g x.order (omega (arith, x.inside, le)) z ∙ sym (cells-between ps (length m) false m m a.w x k h) in

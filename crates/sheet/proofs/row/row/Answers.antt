@@ -19,7 +19,7 @@ pub count-n-requires : goal.count-n-requires
 count-n-requires c =
     let a = c.args in
     let x = c.walk-w.ensures in
-    let l = ap (λ (m : List ℕ). length m) x.marks_left ∙ c.requires.5 in (
+    let l = ap (λ (m : List ℕ). length m) x.marks-left ∙ c.requires.5 in (
       subst (λ (n : ℕ). Writing a.c n) (sym l) c.requires.0,
       c.requires.1,
       c.requires.2,
@@ -29,7 +29,7 @@ count-n-requires c =
     )
 
 pub slice_bounds-settle-count : goal.slice_bounds-settle-count
-slice_bounds-settle-count c = sub-settle c
+slice_bounds-settle-count c = omega (arith, c.walk-w.ensures.order)
 
 pub slice_bounds-settle-start : goal.slice_bounds-settle-start
 slice_bounds-settle-start c = omega (arith, c.walk-w.ensures.order)
@@ -38,7 +38,7 @@ pub slice_bounds-settle-end : goal.slice_bounds-settle-end
 slice_bounds-settle-end c = omega (arith, c.walk-w.ensures.inside, c.requires.5)
 
 pub slice_bounds-settle-count-2 : goal.slice_bounds-settle-count-2
-slice_bounds-settle-count-2 c = sub-settle-2 c
+slice_bounds-settle-count-2 c = omega (arith, c.walk-w.ensures.order)
 
 pub slice_bounds-settle-start-2 : goal.slice_bounds-settle-start-2
 slice_bounds-settle-start-2 c = omega (arith, c.walk-w.ensures.order)
@@ -57,7 +57,7 @@ pub edges-edges-requires : goal.edges-edges-requires
 edges-edges-requires c = (c.requires.6, omega (arith, c.requires.1))
 
 pub overflow_cast-result : goal.overflow_cast-result
-overflow_cast-result c = cast-t27 c
+overflow_cast-result c = omega (arith, c.walk-w.ensures.few)
 
 pub returns : goal.returns
 returns c =
@@ -68,10 +68,10 @@ returns c =
     let s : length mem ≡ length old = ap (λ (m : List ℕ). length m) c.requires.7 ∙ put-length ps old in
     let w = c.walk-w.result in
     let x = walk_sized c.requires.5 c.walk-w.ensures in
-    let l = ap (λ (m : List ℕ). length m) c.walk-w.ensures.marks_left ∙ c.requires.5 in
+    let l = ap (λ (m : List ℕ). length m) c.walk-w.ensures.marks-left ∙ c.requires.5 in
     let k = c.count-n.ensures in
-    let z = (c.settle-bits.ensures.value, c.settle-bits.ensures.after) in record {
+    record {
       value = row_made a.mode a.p a.a ps old mem x.stored (k.0 ∙ ap (λ (n : ℕ). cells_stored n 1 ps) l) (k.1 ∙ ap (λ (n : ℕ). cells_stored n 2 ps) l)
-          (z.value ∙ bits_between ps old mem c.requires.7 s false a.marks.now _ w x) c.edges-edges.ensures;
-      after = ap (λ (ys : List ℕ). take w.low old ++ (ys ++ drop (w.top - w.low) (drop w.low old))) z.after ∙ settled ps old mem c.requires.7 s false a.marks.now _ w x;
+          (c.settle-bits.ensures.value ∙ bits_between ps old mem c.requires.7 s false a.marks.now _ w x) c.edges-edges.ensures;
+      after = ap (λ (ys : List ℕ). take w.low old ++ (ys ++ drop (w.top - w.low) (drop w.low old))) c.settle-bits.ensures.after ∙ settled ps old mem c.requires.7 s false a.marks.now _ w x;
     }

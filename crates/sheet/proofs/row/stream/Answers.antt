@@ -12,7 +12,6 @@ use Rattle.chain.proofs.Bytes.{bytes_by}
 use Rattle.machine.specs.declared.Fed.{Fed}
 use Rattle.machine.specs.Run.{Run, run, run_of}
 use Rattle.machine.specs.Calls.{fed_of}
-use Rattle.machine.proofs.Runs.{run_lasts}
 use Rattle.grammar.specs.Stores.{puts_of, put_into}
 use Rattle.grammar.proofs.Walk.{run_puts}
 use Rattle.sheet.specs.Stream.{Device, device, started}
@@ -28,7 +27,7 @@ returns-then-p-ge-NOWHERE c =
     let d : Device = device a.c a.mem.now in
     let e = c.position-p.ensures.0 in
     let l = unfound-left d a.mode a.s.now c.position-p.result e c.if-p-ge-NOWHERE.true in
-    (c.unfound-row.ensures ∙ unfound_row_lem d a.mode a.s.now c.position-p.result e c.if-p-ge-NOWHERE.true, (ap (λ (x : Device). x.chain) l, (ap (λ (x : Device). x.memory) l, c.requires.3 ∙ ap (λ (x : Device). x.memory) l)))
+    record { row_value = c.unfound-row.ensures ∙ unfound_row_lem d a.mode a.s.now c.position-p.result e c.if-p-ge-NOWHERE.true; chain_value = ap (λ (x : Device). x.chain) l; mem_after = ap (λ (x : Device). x.memory) l; after = c.requires.3 ∙ ap (λ (x : Device). x.memory) l }
 
 pub load-f-requires : goal.load-f-requires
 load-f-requires c =
@@ -46,9 +45,8 @@ row-row-requires c =
     let u = bytes_by s (λ i h. (c.shared_slice_known-1.given i).fits) in
     let i : Idle d = record { ready = c.requires.0; bytes = bytes_by mem (λ i h. (c.slice_known-1.given i).fits) } in
     let st : c.start-o.result.chain ≡ started d a.mode = ap (λ (x : Made). x.chain) c.start-o.ensures.made in
-    let h = (c.load-f.ensures.value, c.load-f.ensures.mem_after) in
     let r : Run = run_of (run (started d a.mode) mem more) (bytes_after s p) in
-    let f : c.load-f.result ≡ fed_of r = h.value ∙ ap (λ (c : Chain). fed_of (run_of (run c mem more) (bytes_after s p))) st in (
+    let f : c.load-f.result ≡ fed_of r = c.load-f.ensures.value ∙ ap (λ (c : Chain). fed_of (run_of (run c mem more) (bytes_after s p))) st in (
       subst (λ (c : Chain). Writing c (length a.old.now)) (sym st) (subst (λ (m : List ℕ). Writing (started d a.mode) (length m)) (sym c.requires.3) (started-writing d a.mode i c.requires.1)),
       c.if-p-ge-NOWHERE.false,
       begins-inside a.mode s p e c.if-p-ge-NOWHERE.false,
@@ -56,14 +54,8 @@ row-row-requires c =
       omega (arith, ap (λ (m : List ℕ). length m) c.requires.3, (ready_size a.c (length mem) c.requires.0).1),
       search (rules, c.load-f.auto, c.requires.4, ap (λ (m : List ℕ). length m) c.requires.3),
       subst (λ (x : Fed). x.answer.taken ≤ most_bytes) (sym f) (taken_few d a.mode s i c.requires.1 u p e c.if-p-ge-NOWHERE.false c.requires.2),
-      h.mem_after ∙ run_puts (bytes_after s p) c.start-o.result.chain mem ∙ ap (put_into (puts_of c.start-o.result.chain (bytes_after s p))) (sym c.requires.3),
+      c.load-f.ensures.mem_after ∙ run_puts (bytes_after s p) c.start-o.result.chain mem ∙ ap (put_into (puts_of c.start-o.result.chain (bytes_after s p))) (sym c.requires.3),
     )
-
-pub shape_of-mem : goal.shape_of-mem
-shape_of-mem c = ap (λ (m : List ℕ). length m) c.load-f.ensures.mem_after ∙ (run_lasts _ (run c.start-o.result.chain c.args.mem.now more)).memory
-
-pub shape_of-old : goal.shape_of-old
-shape_of-old c = ap (λ (m : List ℕ). length m) (c.row-row.ensures.after ∙ c.load-f.ensures.mem_after) ∙ (run_lasts _ (run c.start-o.result.chain c.args.mem.now more)).memory ∙ ap (λ (m : List ℕ). length m) (sym c.requires.3)
 
 pub returns : goal.returns
 returns c =
@@ -75,20 +67,15 @@ returns c =
     let d : Device = device a.c mem in
     let u = bytes_by s (λ i h. (c.shared_slice_known-1.given i).fits) in
     let i : Idle d = record { ready = c.requires.0; bytes = bytes_by mem (λ i h. (c.slice_known-1.given i).fits) } in
-    let st : c.start-o.result.chain ≡ started d a.mode = ap (λ (x : Made). x.chain) c.start-o.ensures.made in
-    let h = (c.load-f.ensures.value, c.load-f.ensures.mem_after) in
+    let st : c.start-o.result.chain ≡ started d a.mode = ap (λ (x : Made). c.row-row.ensures.chain) c.start-o.ensures.made in
     let r : Run = run_of (run (started d a.mode) mem more) (bytes_after s p) in
-    let f : c.load-f.result ≡ fed_of r = h.value ∙ ap (λ (c : Chain). fed_of (run_of (run c mem more) (bytes_after s p))) st in
-    let g = h.mem_after ∙ ap (λ (c : Chain). (run_of (run c mem more) (bytes_after s p)).memory) st in
+    let f : c.load-f.result ≡ fed_of r = c.load-f.ensures.value ∙ ap (λ (c : Chain). fed_of (run_of (run c mem more) (bytes_after s p))) st in
+    let g = c.load-f.ensures.mem_after ∙ ap (λ (c : Chain). (run_of (run c mem more) (bytes_after s p)).memory) st in
     let l = memory-left d a.mode s i c.requires.1 u p e c.if-p-ge-NOWHERE.false in
-    let x = (c.row-row.ensures.value, c.row-row.ensures.after) in (
-      x.value ∙ row_same a.mode p (bytes_after s p) (ap (λ (y : Fed). y.answer) f) st c.requires.3 g
-          ∙ row_is d a.mode s i c.requires.1 u p e c.if-p-ge-NOWHERE.false,
-      (
-        c.closed-chain.ensures ∙ ap (λ (y : Fed). with_place y.chain closed_place) f ∙ chain_left d a.mode s i c.requires.1 u p e c.if-p-ge-NOWHERE.false,
-        (
-          g ∙ l,
-          x.after ∙ g ∙ l,
-        ),
-      ),
-    )
+    record {
+      row_value = c.row-row.ensures.value ∙ row_same a.mode p (bytes_after s p) (ap (λ (y : Fed). y.answer) f) st c.requires.3 g
+          ∙ row_is d a.mode s i c.requires.1 u p e c.if-p-ge-NOWHERE.false;
+      chain_value = c.closed-chain.ensures ∙ ap (λ (y : Fed). with_place y.chain closed_place) f ∙ chain_left d a.mode s i c.requires.1 u p e c.if-p-ge-NOWHERE.false;
+      mem_after = g ∙ l;
+      after = c.row-row.ensures.after ∙ g ∙ l;
+    }

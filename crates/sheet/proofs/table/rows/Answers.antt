@@ -27,9 +27,6 @@ loop-i-init c =
       refl,
     )
 
-pub overflow_cast-e : goal.overflow_cast-e
-overflow_cast-e c = omega (arith, (c.shared_slice_known-2-1.given c.loop-i.i).fits)
-
 pub overflow_add-e : goal.overflow_add-e
 overflow_add-e c =
     let a = c.args in
@@ -40,7 +37,7 @@ overflow_add-e c =
     let d₀ : Device = device a.c a.mem.now in
     let d : Device = device c.loop-i.d c.loop-i.mem in
     let f = next_fits a.mode ss ls d₀ a.numbers.now a.figures.now d c.loop-i.numbers c.loop-i.figures c.loop-i.sums c.loop-i.at c.loop-i.i x c.loop-i-test.true c.requires.1 c.requires.6 c.requires.4 u in
-    omega (arith, f, c.well-formed)
+    omega (arith, f, c.well_formed)
 
 pub slice_bounds-stream-end : goal.slice_bounds-stream-end
 slice_bounds-stream-end c =
@@ -67,9 +64,6 @@ stream-r-requires c =
 
 pub bounds-numbers-i : goal.bounds-numbers-i
 bounds-numbers-i c = omega (arith, c.loop-i-test.true, c.loop-i.invariant.3, c.requires.7)
-
-pub overflow_mul-i : goal.overflow_mul-i
-overflow_mul-i c = mul-enter c
 
 pub enter-requires : goal.enter-requires
 enter-requires c = omega (arith, c.loop-i-test.true, c.loop-i.invariant.4, c.requires.8)
@@ -101,34 +95,18 @@ loop-i-preserved c =
     let x = c.loop-i.invariant.0 in
     let d₀ : Device = device a.c a.mem.now in
     let d : Device = device c.loop-i.d c.loop-i.mem in
-    let w = (c.stream-r.ensures.row_value, c.stream-r.ensures.chain_value, c.stream-r.ensures.mem_after, c.stream-r.ensures.after) in
     let s = take (c.loop-i.at + get_or ls c.loop-i.i 0 - c.loop-i.at) (drop c.loop-i.at ss) in
-    let g = c.enter.ensures ∙ ap (λ (r : Sheet). sets c.loop-i.figures (figures_a_row * c.loop-i.i) (figures_of (r ∷ []))) w.row_value in
+    let g = c.enter.ensures ∙ ap (λ (r : Sheet). sets c.loop-i.figures (figures_a_row * c.loop-i.i) (figures_of (r ∷ []))) c.stream-r.ensures.row_value in
     let t = entering_turn a.mode ss ls d₀ a.numbers.now a.figures.now d c.loop-i.numbers c.loop-i.figures c.loop-i.sums c.loop-i.at c.loop-i.i x c.loop-i-test.true c.requires.1 c.requires.6 c.requires.4 u _ g in (
-      entered a.mode ss ls d₀ a.numbers.now a.figures.now (left_by d a.mode s) (row_of d a.mode s) c.loop-i.numbers _ c.loop-i.sums (c.loop-i.at + get_or ls c.loop-i.i 0) (c.loop-i.i + 1) c.loop-i.i t w.chain_value w.mem_after w.row_value c.add-sums.ensures,
-      w.after ∙ sym w.mem_after,
+      entered a.mode ss ls d₀ a.numbers.now a.figures.now (left_by d a.mode s) (row_of d a.mode s) c.loop-i.numbers _ c.loop-i.sums (c.loop-i.at + get_or ls c.loop-i.i 0) (c.loop-i.i + 1) c.loop-i.i t c.stream-r.ensures.chain_value c.stream-r.ensures.mem_after c.stream-r.ensures.row_value c.add-sums.ensures,
+      c.stream-r.ensures.after ∙ sym c.stream-r.ensures.mem_after,
       search (rules, c.stream-r.auto, c.loop-i.invariant.2),
       length-set c.loop-i.numbers c.loop-i.i c.stream-r.result.row.number ∙ c.loop-i.invariant.3,
       ap (λ (l : List ℕ). length l) c.enter.ensures ∙ length-sets c.loop-i.figures (figures_a_row * c.loop-i.i) (figures_of (c.stream-r.result.row ∷ [])) ∙ c.loop-i.invariant.4,
     )
 
-pub shape_of-mem : goal.shape_of-mem
-shape_of-mem c = c.loop-i.invariant.0.cells
-
-pub shape_of-old : goal.shape_of-old
-shape_of-old c = ap (λ (l : List ℕ). length l) c.loop-i.invariant.1 ∙ c.loop-i.invariant.0.cells ∙ ap (λ (l : List ℕ). length l) (sym c.requires.2)
-
-pub shape_of-marks : goal.shape_of-marks
-shape_of-marks c = c.loop-i.invariant.2
-
-pub shape_of-numbers : goal.shape_of-numbers
-shape_of-numbers c = c.loop-i.invariant.3
-
-pub shape_of-figures : goal.shape_of-figures
-shape_of-figures c = c.loop-i.invariant.4
-
 pub returns : goal.returns
 returns c =
     let a = c.args in
     let e = entering_ends a.mode a.streams.now a.lengths.now (device a.c a.mem.now) a.numbers.now a.figures.now (device c.loop-i.d c.loop-i.mem) c.loop-i.numbers c.loop-i.figures c.loop-i.sums c.loop-i.at c.loop-i.i c.loop-i.invariant.0 c.loop-i-test.false in
-    (e.0, (e.1, e.2))
+    record { value = e.0; numbers_after = e.1; figures_after = e.2 }
