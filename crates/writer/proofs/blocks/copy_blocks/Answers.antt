@@ -22,7 +22,7 @@ pub overflow_sub-last : goal.overflow_sub-last
 overflow_sub-last c = a_block (length c.args.cells.now) c.if-n.false
 
 pub loop-i-init : goal.loop-i-init
-loop-i-init c = (sub-last c, search rules, refl, refl)
+loop-i-init c = (a_block (length c.args.cells.now) c.if-n.false, search rules, refl, refl)
 
 pub loop-i-preserved : goal.loop-i-preserved
 loop-i-preserved c =

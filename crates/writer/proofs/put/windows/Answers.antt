@@ -35,4 +35,5 @@ pub returns : goal.returns
 returns c =
     let s = c.args in
     let k = c.loop-i in
-    done s.starts.now s.ends.now s.cells.now s.out.now c.requires.0 c.requires.3 k.out k.at k.from k.i k.invariant (search rules)
+    let both = done s.starts.now s.ends.now s.cells.now s.out.now c.requires.0 c.requires.3 k.out k.at k.from k.i k.invariant (search rules) in
+    record { value = both.0; out_after = both.1 }

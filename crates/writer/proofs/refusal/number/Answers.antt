@@ -1,4 +1,5 @@
 use mathlib.Core.Path.{sym, ◌∙◌}
+use native.Mathlib.Omega.{arith}
 use borrow.Author.Tests.{ne_eqb, eq-eqb, le-ltb}
 use lib.ListN.{length}
 use Rattle.chain.proofs.Tests.{tests}
@@ -42,7 +43,7 @@ returns-then-len-t c =
     simp (← c.size_of-size.ensures, c.if-not-mode.false, sym c.tables-t.ensures.number_value ∙ c.if-t-ne-DONE.false, ← (c.tables-t.ensures.sum_value c.if-t-ne-DONE.false).0) (search tests)
 
 pub overflow_add-lead-3 : goal.overflow_add-lead-3
-overflow_add-lead-3 c = add-all c
+overflow_add-lead-3 c = let b = c.tables-t.ensures.sum_value c.if-t-ne-DONE.false in omega arith
 
 pub returns-then-room-lead : goal.returns-then-room-lead
 unfolding number_of

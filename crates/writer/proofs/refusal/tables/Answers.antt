@@ -1,5 +1,6 @@
 use Prim.Native.Nat.{◌-◌}
 use mathlib.Core.Path.{refl, sym, ◌∙◌}
+use borrow.Author.Tests.{lt-ltb, le-ltb}
 use native.Mathlib.Omega.{arith}
 use Rattle.writer.proofs.Windows.{number_more, number-done, sum_more, sum_done}
 use borrow.Author.Rules.{rules}
@@ -12,20 +13,20 @@ pub returns-then-not-start-size : goal.returns-then-not-start-size
 returns-then-not-start-size c =
     let a = c.args in
     let m = number_more a.starts.now a.ends.now c.loop-i.i (search rules) (search rules) a.size in
-    record { number_value = sym (c.loop-i.invariant.2 ∙ m ∙ simp c.if-not-start-size.true); sum_value = λ z. absurd (omega (arith, z)) }
+    record { number_value = sym (c.loop-i.invariant.2 ∙ m ∙ simp (le-ltb _ a.size c.if-not-start-size.true)); sum_value = λ z. absurd (omega (arith, z)) }
 
 pub returns-then-end-start : goal.returns-then-end-start
 returns-then-end-start c =
     let a = c.args in
     let m = number_more a.starts.now a.ends.now c.loop-i.i (search rules) (search rules) a.size in
-    record { number_value = sym (c.loop-i.invariant.2 ∙ m ∙ simp (c.if-not-start-size.false, c.if-end-start.true)); sum_value = λ z. absurd (omega (arith, z)) }
+    record { number_value = sym (c.loop-i.invariant.2 ∙ m ∙ simp (lt-ltb _ a.size c.if-not-start-size.false, c.if-end-start.true)); sum_value = λ z. absurd (omega (arith, z)) }
 
 pub loop-i-preserved : goal.loop-i-preserved
 loop-i-preserved c =
     let a = c.args in
     let m = number_more a.starts.now a.ends.now c.loop-i.i (search rules) (search rules) a.size in
     let s = sum_more a.starts.now a.ends.now c.loop-i.i (search rules) (search rules) in
-    (search rules, omega arith, c.loop-i.invariant.2 ∙ m ∙ simp (c.if-not-start-size.false, c.if-end-start.false), omega arith)
+    (search rules, omega arith, c.loop-i.invariant.2 ∙ m ∙ simp (lt-ltb _ a.size c.if-not-start-size.false, c.if-end-start.false), omega arith)
 
 pub returns : goal.returns
 returns c =
