@@ -1,24 +1,19 @@
 -- What the code of a block answers is the block's. Assumes nothing.
-use Rattle.std.proofs.Common.{◌≡◌, ℕ, suc, ◌+◌, ◌-◌, ◌%◌, ◌^◌, ◌<◌, ◌≤◌, Bool, true, false, ◌&&◌, eqb, List, [], ◌∷◌, length, take, sym, refl, ap, ◌∙◌, ⊎_elim, true≢false, arith, eq-eqb, ne_eqb, eqb-true}
-use mathlib.Core.Bool.{and-false}
+use Rattle.std.proofs.Common.{◌≡◌, ℕ, ◌+◌, ◌%◌, ◌^◌, ◌<◌, ◌≤◌, true, false, List, length, take, ap, ◌∙◌, arith, ne_eqb}
 use Rattle.chain.specs.declared.Chain.{Chain}
-use Rattle.chain.specs.declared.Place.{Place}
-use Rattle.chain.specs.Paper.{closed, at_null, more, past_eprom, bad_jump, B1}
-use Rattle.chain.specs.Rules.{pick}
-use Rattle.chain.proofs.ByCases.{by_test}
+use Rattle.chain.specs.Paper.{closed, more, past_eprom, bad_jump}
 use Rattle.machine.specs.declared.Fed.{Fed}
-use Rattle.machine.specs.Run.{ended, Run, run, run_of}
+use Rattle.machine.specs.Run.{run, run_of}
 use Rattle.machine.specs.Calls.{fed_of, refuse_of}
 use Rattle.eprom.specs.declared.Fetcher.{Fetcher}
 use Rattle.eprom.specs.declared.Fetched.{Fetched}
 use Rattle.eprom.specs.Counter.{counts}
-use Rattle.eprom.specs.Kept.{not_yet, first, jumps, astray}
-use Rattle.eprom.specs.Fetch.{Fetching, fetching}
+use Rattle.eprom.specs.Kept.{astray}
+use Rattle.eprom.specs.Fetch.{Fetching}
 use Rattle.eprom.specs.Calls.{lent, fetched_of}
-use Rattle.eprom.specs.Steps.{took_all, settled, head_of, Free, kept_by, went_to, ended_to, Block}
-use Rattle.eprom.proofs.Settled.{settled-jumps, no_jump_right}
+use Rattle.eprom.specs.Steps.{took_all, kept_by, went_to, ended_to, Block}
 use Rattle.eprom.proofs.Own.{run_never_past}
-use Rattle.eprom.proofs.Blocks.{left_of, Took, took, took_lost}
+use Rattle.eprom.proofs.Blocks.{Took, took, took_lost}
 
 -- an answer of the machine's and a fetcher, as one answer
 abbrev pub joined_of : Fed → Fetcher → Fetched

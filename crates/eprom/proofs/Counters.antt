@@ -1,5 +1,5 @@
 -- The counter n bytes later: one byte is the next, and bytes add up. Assumes nothing.
-use Rattle.std.proofs.Common.{◌≡◌, ℕ, suc, ◌+◌, ◌-◌, ◌%◌, ◌<◌, ◌≤◌, eqb, refl, arith}
+use Rattle.std.proofs.Common.{◌≡◌, ℕ, suc, ◌+◌, ◌-◌, ◌%◌, ◌≤◌, eqb, refl, arith}
 use Rattle.chain.specs.Paper.{downward}
 use Rattle.chain.proofs.ByCases.{by_test, either_way}
 use Rattle.eprom.specs.Counter.{counts, last_count, next_of}

@@ -1,5 +1,5 @@
 -- The loop over a block's bytes: a turn of it and its end, by what is kept of the bytes that are left. Assumes nothing.
-use Rattle.std.proofs.Common.{◌≡◌, ℕ, suc, ◌+◌, ◌<◌, ◌≤◌, List, [], ◌∷◌, length, get_or, drop, refl, add-one, drop_of_length-le, drop-cons}
+use Rattle.std.proofs.Common.{◌≡◌, ℕ, ◌+◌, ◌<◌, ◌≤◌, List, length, get_or, drop, add-one, drop_of_length-le, drop-cons}
 use Rattle.chain.specs.Rules.{row_of}
 use Rattle.eprom.specs.declared.Fetcher.{Fetcher}
 use Rattle.eprom.specs.Kept.{kept_rows}

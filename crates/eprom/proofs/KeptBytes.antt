@@ -1,6 +1,5 @@
 -- What is kept of a block of bytes: as byte by byte, and whatever the counter. Assumes nothing.
-use Rattle.std.proofs.Common.{◌≡◌, ℕ, zero, suc, ◌+◌, ◌-◌, ◌<◌, ◌≤◌, Bool, true, false, not, ◌&&◌, ◌||◌, eqb, leb, List, [], ◌∷◌, length, sym, refl, ap, ◌∙◌, true≢false, arith, lit<, lit≤, le-ltb, ne_eqb, eqb-true, le-leb, leb-false, leb-true}
-use borrow.Author.Tests.{eqb-false}
+use Rattle.std.proofs.Common.{◌≡◌, ℕ, ◌-◌, ◌<◌, ◌≤◌, Bool, true, false, not, ◌&&◌, eqb, leb, List, [], ◌∷◌, sym, refl, ◌∙◌, true≢false, arith, lit<, lit≤, le-ltb, ne_eqb, eqb-true, le-leb, leb-true}
 use Rattle.chain.specs.declared.Place.{Place}
 use Rattle.chain.specs.Paper.{at_preamble, at_control, at_address, at_address2, at_address3, at_count, at_null, at_check, no_windows}
 use Rattle.chain.specs.Rules.{pick, row_of}
@@ -8,7 +7,6 @@ use Rattle.chain.proofs.ByCases.{by_test, either_way}
 use Rattle.eprom.specs.declared.Fetcher.{Fetcher}
 use Rattle.eprom.specs.Kept.{with_counter, not_yet, first, kept_rows, kept_of}
 use Rattle.eprom.specs.Steps.{settled, head_of, kept_through, kept_by, after_of}
-use Rattle.eprom.proofs.Settled.{unsettled}
 
 -- ---- whatever the counter
 

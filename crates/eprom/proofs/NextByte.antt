@@ -1,27 +1,22 @@
 -- A fetched byte with which the run goes on, and what the next one is met with. Assumes nothing.
-use Rattle.std.proofs.Common.{◌≡◌, ℕ, zero, suc, ◌+◌, ◌%◌, ◌^◌, ◌<◌, ◌≤◌, Bool, true, false, eqb, leb, ◌⊎◌, List, [], ◌∷◌, length, get_or, take, sym, refl, ap, ◌∙◌, subst, inl, inr, ⊎_elim, arith, lit<, lit≤, ltb-false, eq-eqb, ne_eqb, eqb-true, leb-false, leb-true}
+use Rattle.std.proofs.Common.{◌≡◌, ℕ, suc, ◌+◌, ◌%◌, ◌^◌, ◌<◌, ◌≤◌, Bool, true, false, eqb, ◌⊎◌, List, ◌∷◌, length, sym, refl, ap, ◌∙◌, subst, inl, inr, ⊎_elim, arith, lit<, lit≤, ltb-false, ne_eqb, eqb-true}
 use mathlib.Core.Bool.{and-false, or-true}
-use native.Mathlib.Nat.{mod-add-mod}
 use borrow.Author.Tests.{eqb-false}
 use Rattle.chain.specs.declared.Chain.{Chain}
 use Rattle.chain.specs.declared.Place.{Place}
-use Rattle.chain.specs.Paper.{at_preamble, at_second, at_control, at_address, at_address2, at_address3, at_count, at_null, at_check, two_preambles, downward, first_mode, eprom_internal, most_devices, no_windows, more, B1}
+use Rattle.chain.specs.Paper.{at_count, at_null, at_check, two_preambles, most_devices, no_windows, more, B1}
 use Rattle.chain.specs.Rules.{pick, row_of}
 use Rattle.chain.specs.Set.{with_awaited}
 use Rattle.chain.proofs.ByCases.{by_test, by_eq, no_case, ◌or◌, below}
 use Rattle.awaited.specs.Byte.{number_of, advance_of}
-use Rattle.machine.specs.Run.{memory_of, missed_of, counted, ended, Run, run, went_on, run_of}
+use Rattle.machine.specs.Run.{missed_of, counted, went_on}
 use Rattle.machine.proofs.Frame.{advance_frame}
-use Rattle.machine.proofs.Runs.{run_went, run-ended}
 use Rattle.eprom.specs.declared.Fetcher.{Fetcher}
-use Rattle.eprom.specs.Counter.{fetches, counts, last_count, next_of}
-use Rattle.eprom.specs.Kept.{with_counter, not_yet, first, kept_rows, kept_of, external_of, jumps, astray, onward, fetcher_at_end}
-use Rattle.eprom.specs.Fetch.{Fetching, fetching, fetch_all}
-use Rattle.eprom.specs.Calls.{lent}
+use Rattle.eprom.specs.Counter.{fetches, last_count, next_of}
+use Rattle.eprom.specs.Kept.{with_counter, not_yet, first, kept_rows, kept_of, external_of, jumps, astray, onward}
 use Rattle.eprom.specs.Steps.{settled, head_of, control_of, Plain, Free, after_of, kept_through, kept_by, Going}
-use Rattle.eprom.proofs.Counters.{next_further, next_low, further_low, further_next}
-use Rattle.eprom.proofs.ReadBytes.{Reads}
-use Rattle.eprom.proofs.Settled.{unsettled, settled-jumps, no_jump_right, goes, went_device, settled_on}
+use Rattle.eprom.proofs.Counters.{next_low}
+use Rattle.eprom.proofs.Settled.{settled-jumps, goes, went_device, settled_on}
 use Rattle.eprom.proofs.KeptBytes.{two-left, by_through, through-none, through_counter, settled-kept}
 
 -- ---- up to the null byte the awaited bytes follow each other

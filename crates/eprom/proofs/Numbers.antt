@@ -1,6 +1,5 @@
 -- A fetch's number: the state's own, or the fetch's; and what holds where it is done. Assumes nothing.
 use Rattle.std.proofs.Common.{◌≡◌, ℕ, Bool, true, false, not, eqb, ltb, List, [], ◌∷◌, sym, refl, arith, ltb-false}
-use borrow.Author.Tests.{eqb-false}
 use Rattle.chain.specs.declared.Chain.{Chain}
 use Rattle.chain.specs.Paper.{closed, done, bad_mode, no_run, ill_formed}
 use Rattle.chain.specs.Rules.{pick, Rule, ◌gives◌}

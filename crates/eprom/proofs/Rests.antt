@@ -1,10 +1,9 @@
 -- Where no jump is left and nothing more is kept: a block leaves the counter later by the bytes it took, and it stays so. Assumes nothing.
-use Rattle.std.proofs.Common.{◌≡◌, ℕ, ◌+◌, ◌-◌, ◌%◌, ◌^◌, ◌<◌, ◌≤◌, true, false, eqb, List, [], ◌∷◌, length, take, sym, refl, ap, ◌∙◌, subst, inl, arith}
+use Rattle.std.proofs.Common.{◌≡◌, ℕ, ◌+◌, ◌-◌, ◌%◌, ◌^◌, ◌<◌, ◌≤◌, true, false, eqb, List, [], ◌∷◌, length, sym, ap, ◌∙◌, inl, arith}
 use Rattle.chain.specs.declared.Chain.{Chain}
 use Rattle.chain.specs.declared.Place.{Place}
 use Rattle.chain.specs.Paper.{at_check, most_devices, downward, more, B0}
 use Rattle.chain.specs.Rules.{pick}
-use Rattle.awaited.specs.Byte.{number_of}
 use Rattle.machine.specs.declared.Fed.{Fed}
 use Rattle.machine.specs.Run.{memory_of, missed_of, counted as countedOn, run, went_on, run_of}
 use Rattle.machine.specs.Calls.{fed_of}
@@ -15,7 +14,7 @@ use Rattle.eprom.specs.Counter.{counts, home_of}
 use Rattle.eprom.specs.Kept.{with_counter, fetcher_at, astray}
 use Rattle.eprom.specs.Fetch.{Fetching, fetch_all}
 use Rattle.eprom.specs.Calls.{lent, fetched_of}
-use Rattle.eprom.specs.Steps.{further_of, took_all, settled, kept_by, went_to, ended_to, down_from, Going, Block}
+use Rattle.eprom.specs.Steps.{further_of, took_all, settled, kept_by, ended_to, down_from, Going, Block}
 use Rattle.eprom.proofs.ReadBytes.{Reads, down-length, down_reads}
 use Rattle.eprom.proofs.Settled.{settled-jumps, no_jump_right, goes, went_device, settled_on}
 use Rattle.eprom.proofs.BlockAnswers.{joined_of, used_low, went_all, ended-all}

@@ -1,11 +1,10 @@
 -- Where nothing more of a run is kept: no jump is left, and it stays so. Assumes nothing.
-use Rattle.std.proofs.Common.{◌≡◌, ℕ, ◌+◌, ◌%◌, ◌^◌, ◌<◌, ◌≤◌, Bool, true, false, not, ◌&&◌, ◌||◌, eqb, ltb, leb, ◌⊎◌, List, sym, refl, ap, ◌∙◌, inl, inr, ⊎_elim, true≢false, mod-eq_of_lt, arith, lit<, lit≤, eq-eqb, ne_eqb, eqb-true, le-leb, leb-false, leb-true}
-use mathlib.Core.Bool.{and-true, and-false, or-true}
-use borrow.Author.Tests.{eqb-false, not-false}
+use Rattle.std.proofs.Common.{◌≡◌, ℕ, ◌+◌, ◌%◌, ◌^◌, ◌<◌, ◌≤◌, Bool, true, false, not, ◌&&◌, ◌||◌, eqb, ltb, leb, ◌⊎◌, List, sym, refl, inl, inr, ⊎_elim, true≢false, arith, lit<, lit≤, eq-eqb, ne_eqb, le-leb, leb-false, leb-true}
+use mathlib.Core.Bool.{and-false}
+use borrow.Author.Tests.{not-false}
 use Rattle.chain.specs.declared.Chain.{Chain}
 use Rattle.chain.specs.declared.Place.{Place}
-use Rattle.chain.specs.Paper.{preamble, no_windows, two_preambles, at_preamble, at_second, at_control, at_address, at_address2, at_address3, at_count, at_null, at_start, at_start_low, at_end, at_end_low, at_data, at_check, most_devices, done, bad_check_byte, last_device, more, B1}
-use Rattle.chain.specs.Rules.{pick}
+use Rattle.chain.specs.Paper.{preamble, no_windows, two_preambles, at_preamble, at_second, at_control, at_count, at_null, at_data, at_check, most_devices, done, bad_check_byte, last_device, more, B1}
 use Rattle.chain.proofs.Means.{says, reads}
 use Rattle.chain.proofs.ByCases.{either_way, no_case, ◌or◌, below}
 use Rattle.chain.specs.Set.{with_awaited}

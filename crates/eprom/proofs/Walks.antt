@@ -1,12 +1,10 @@
 -- A fetch block by block: what each turn of the loop leaves is what the bytes one by one leave. Assumes nothing.
-use Rattle.std.proofs.Common.{◌≡◌, ℕ, zero, suc, ◌+◌, ◌-◌, ◌<◌, ◌≤◌, true, false, eqb, List, length, sym, refl, ap, ◌∙◌, arith, ne_eqb}
-use borrow.Author.Tests.{eqb-false}
+use Rattle.std.proofs.Common.{◌≡◌, ℕ, zero, suc, ◌+◌, ◌-◌, ◌<◌, ◌≤◌, List, length, sym, refl, ap, ◌∙◌, arith}
 use Rattle.chain.specs.declared.Chain.{Chain}
-use Rattle.chain.specs.Paper.{more, past_eprom, downward}
+use Rattle.chain.specs.Paper.{more, past_eprom}
 use Rattle.machine.specs.Run.{run}
 use Rattle.eprom.specs.declared.Fetcher.{Fetcher}
 use Rattle.eprom.specs.declared.Fetched.{Fetched}
-use Rattle.eprom.specs.Counter.{counts}
 use Rattle.eprom.specs.Fetch.{Fetching, fetching, fetch_all}
 use Rattle.eprom.specs.Calls.{lent, answers, fetched_of}
 use Rattle.eprom.specs.Steps.{took_all, Going, Block, Reach}

@@ -1,6 +1,5 @@
 -- A run whose bytes are fetched: byte by byte from the EPROM, at the fetcher's counter, and fed to the machine. Assumes nothing.
 use Rattle.std.specs.Prelude.{ℕ, zero, suc, List, [], ◌∷◌, length, ◌==◌, nat_le, slice_index}
-use Rattle.chain.specs.declared.Chain.{Chain}
 use Rattle.chain.specs.Paper.{more, past_eprom, bad_jump}
 use Rattle.chain.specs.Rules.{pick}
 use Rattle.machine.specs.Run.{ended, Run, run, step_of}

@@ -1,5 +1,5 @@
 -- What a fetcher keeps of the first device's section beside its counter, and the jump that this decides. Assumes nothing.
-use Rattle.std.specs.Prelude.{ℕ, ◌+◌, ◌*◌, Bool, ◌&&◌, List, [], ◌∷◌, set, ◌==◌, nat_lt, slice_index, slice_set}
+use Rattle.std.specs.Prelude.{ℕ, ◌+◌, ◌*◌, Bool, ◌&&◌, List, [], ◌∷◌, ◌==◌, nat_lt, slice_index, slice_set}
 use Rattle.chain.specs.declared.Place.{Place}
 use Rattle.chain.specs.Paper.{at_preamble, at_control, at_address, at_address2, at_address3, at_null, B0, B1}
 use Rattle.chain.specs.Rules.{pick, Row, ◌⇒◌, row_of}

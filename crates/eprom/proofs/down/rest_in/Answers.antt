@@ -1,4 +1,4 @@
-use Rattle.std.proofs.Common.{ℕ, ◌≤◌, true, List, length, sym, refl, ap, ◌∙◌, subst, arith, rules}
+use Rattle.std.proofs.Common.{ℕ, ◌≤◌, List, length, sym, refl, ap, ◌∙◌, subst, arith, rules}
 use Rattle.chain.specs.Paper.{more, past_eprom}
 use Rattle.machine.specs.declared.Fed.{Fed}
 use Rattle.eprom.specs.declared.Fetcher.{Fetcher}

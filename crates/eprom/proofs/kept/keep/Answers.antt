@@ -1,4 +1,4 @@
-use Rattle.std.proofs.Common.{◌-◌, drop, sym, refl, ◌∙◌, rules}
+use Rattle.std.proofs.Common.{drop, sym, refl, ◌∙◌, rules}
 use Rattle.eprom.specs.Steps.{kept_by}
 use Rattle.eprom.proofs.Keeps.{through_turn, through-end}
 use Rattle.eprom.proofs.KeptBytes.{through-none}

@@ -1,4 +1,4 @@
-use Rattle.std.proofs.Common.{true, false, ⊎_elim, arith, eqb-true}
+use Rattle.std.proofs.Common.{⊎_elim, arith, eqb-true}
 use borrow.Author.Tests.{eqb-false}
 use Rattle.eprom.proofs.walk.reach.Goals as goal
 

@@ -1,5 +1,4 @@
 use Rattle.std.proofs.Common.{ℕ, eqb, List, length, sym, refl, ap, ◌∙◌, ⊎_elim, arith, rules}
-use Rattle.machine.specs.Run.{run}
 use Rattle.eprom.specs.declared.Fetched.{Fetched}
 use Rattle.eprom.specs.Fetch.{Fetching}
 use Rattle.eprom.specs.Calls.{lent, fetched_of}
