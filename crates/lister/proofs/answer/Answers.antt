@@ -22,7 +22,7 @@ pub bounds-s-p-4 : goal.bounds-s-p-4
 bounds-s-p-4 c = let h = c.requires.2 c.if-e-ne-DONE.false in omega arith
 
 pub overflow_sub-result : goal.overflow_sub-result
-overflow_sub-result c = omega (arith, c.shared_slice_known-4-1.given (c.args.p + 5))
+overflow_sub-result c = omega (arith, c.type_inv.s (c.args.p + 5))
 
 pub bounds-s-p-5 : goal.bounds-s-p-5
 bounds-s-p-5 c =

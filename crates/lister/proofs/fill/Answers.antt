@@ -36,4 +36,6 @@ loop-i-preserved c =
     filling_more f (search rules) (search rules) c.whole_window-w.result (c.whole_window-w.ensures ∙ sym (filling_whole f (search rules)).reads)
 
 pub returns : goal.returns
-returns c = filling_all c.loop-i.invariant (search rules)
+returns c =
+    let all = filling_all c.loop-i.invariant (search rules) in
+    record { starts_after = all.0; ends_after = all.1.0; offsets_after = all.1.1 }

@@ -28,4 +28,4 @@ fill-requires c =
 pub returns : goal.returns
 returns c =
     let a = c.args in
-    lists_all a.kind a.mode a.s.now a.starts.now a.ends.now a.offsets.now c.size_of-size.result c.preamble_at-p.result c.look-e.result c.answer-r.result c.size_of-size.ensures c.preamble_at-p.ensures.value c.look-e.ensures c.answer-r.ensures _ _ _ c.if-r-ne-DONE.false (c.fill.ensures.starts_after, c.fill.ensures.ends_after, c.fill.ensures.offsets_after)
+    lists_all a.kind a.mode a.s.now a.starts.now a.ends.now a.offsets.now c.size_of-size.result c.preamble_at-p.result c.look-e.result c.answer-r.result c.size_of-size.ensures c.preamble_at-p.ensures.value c.look-e.ensures c.answer-r.ensures _ _ _ c.if-r-ne-DONE.false (c.fill.ensures.starts_after, (c.fill.ensures.ends_after, c.fill.ensures.offsets_after))

@@ -25,7 +25,7 @@ bounds-s-p c =
     let h = stream-done a.size a.mode a.s.now (ap (λ (e : Stop). e.number) (sym c.read_stream-e.ensures) ∙ c.if-e-ne-DONE.false) in omega arith
 
 pub overflow_sub-n : goal.overflow_sub-n
-overflow_sub-n c = omega (arith, c.shared_slice_known-2-1.given (c.preamble_at-p.result + 5))
+overflow_sub-n c = omega (arith, c.type_inv.s (c.preamble_at-p.result + 5))
 
 pub returns-then-a-n : goal.returns-then-a-n
 unfolding list_stop
