@@ -1,7 +1,7 @@
 -- Ascending spans with gaps are the spans of their cells. Assumes nothing.
 use Prim.Native.Nat.{ℕ, zero, suc, ◌+◌, ◌≤◌, ◌<◌}
 use mathlib.Core.Bool.{Bool}
-use mathlib.Core.Path.{◌≡◌, refl, sym, ap, ◌∙◌}
+use mathlib.Core.Path.{◌≡◌, refl, sym, ap, subst, ◌∙◌}
 use mathlib.Core.List.{List, [], ◌∷◌}
 use native.Mathlib.Omega.{arith}
 use borrow.Author.Tests.{eq-eqb, ne_eqb, ltb-true, ltb-false}
@@ -28,11 +28,12 @@ canon zero a [] s b = refl
 canon zero a (x ∷ xs) s b = absurd (omega (arith, s.0, s.1, b.0))
 canon (suc n) a [] s b = canon n (suc a) [] tt tt
 canon (suc n) a (x ∷ xs) s b =
-    let e : suc a + n ≡ a + suc n = omega arith in
+    let e : a + suc n ≡ suc a + n = omega arith in
+    let f : (ys : List Span) → Below (a + suc n) ys → Below (suc a + n) ys = λ ys w. subst (λ (m : ℕ). Below m ys) e w in
     by_test (ltb a x.start)
     (λ t. let h = ltb-true a x.start t in
     rw (has-below x.start x.end a h, spanned_low xs (x.end + 2) a s.2 (omega (arith, s.1)))
-    (canon n (suc a) (x ∷ xs) (h, s.1, s.2) (rw e b)))
+    (canon n (suc a) (x ∷ xs) (h, s.1, s.2) (f (x ∷ xs) b)))
     (λ t. let h = ltb-false a x.start t in
     let z : x.start ≡ a = omega (arith, s.0) in
     rw (has_yes x.start x.end a h (omega (arith, s.1)))
@@ -45,13 +46,13 @@ canon (suc n) a (x ∷ xs) s b =
     (λ m. has_above x.start x.end i (ltb-true x.end i m) ∙ sym (has_above (suc a) x.end i (ltb-true x.end i m)))
     (λ m. has_yes x.start x.end i (omega arith) (ltb-false x.end i m) ∙ sym (has_yes (suc a) x.end i f (ltb-false x.end i m))) in
     rw u)
-    ∙ canon n (suc a) y (omega arith, g, s.2) (rw e b) in
+    ∙ canon n (suc a) y (omega arith, g, s.2) (f y b) in
     ap (cell_and a) q ∙ rw (eq-eqb (suc a) (suc a) refl, ← z))
     (λ k. let g = ltb-false a x.end k in
     let w : x.end ≡ a = omega (arith, s.1) in
     let q : spans_of (spanned (x ∷ xs)) n (suc a) ≡ xs =
     spans_same (spanned (x ∷ xs)) (spanned xs) n (suc a) (λ i f _. rw (has_above x.start x.end i (omega arith)))
-    ∙ canon n (suc a) xs (spaced_less (x.end + 2) (suc a) xs (omega arith) s.2) (rw e b.1) in
+    ∙ canon n (suc a) xs (spaced_less (x.end + 2) (suc a) xs (omega arith) s.2) (f xs b.1) in
     ap (cell_and a) q ∙ and_first a xs (spaced_less (x.end + 2) (a + 2) xs (omega arith) s.2) ∙ one x z w)))
   where
     one : {a : ℕ} {xs : List Span} (x : Span) → x.start ≡ a → x.end ≡ a → span a a ∷ xs ≡ x ∷ xs

@@ -2,7 +2,6 @@ use mathlib.Core.Path.{sym, ◌∙◌}
 use native.Mathlib.Omega.{arith}
 use Rattle.tidy.proofs.Answers.{no_kind, own, head-there, read_whole, all}
 use borrow.Author.Rules.{rules}
-use Rattle.tidy.proofs.Tidy.Tie as tie
 use Rattle.tidy.proofs.tidy.Goals as goal
 
 pub returns-then-size-eq0 : goal.returns-then-size-eq0
@@ -21,7 +20,7 @@ bounds-s-5 c =
 
 pub overflow_sub-n : goal.overflow_sub-n
 overflow_sub-n c =
-    omega (arith, c.shared_slice_known-2-1.given 5)
+    omega (arith, c.type_inv.s 5)
 
 pub write-requires : goal.write-requires
 write-requires c =

@@ -10,10 +10,14 @@ loop-i-init c =
     laying_none a.size a.s.now a.n a.places.now a.out.now c.requires.0
 
 pub overflow_cast-places : goal.overflow_cast-places
-overflow_cast-places c = cast-put c
+overflow_cast-places c = omega (arith, c.type_inv.places c.loop-i.i)
 
 pub slice_bounds-put-count : goal.slice_bounds-put-count
-slice_bounds-put-count c = sub-put c
+slice_bounds-put-count c =
+    let a = c.args in
+    let l = c.loop-i in
+    let k = laying_read a.size a.s.now a.n a.places.now a.out.now l.out l.at l.i l.invariant c.read_window-w.result (search rules) c.read_window-w.ensures in
+    omega (arith, k.0, k.1)
 
 pub slice_bounds-put-start : goal.slice_bounds-put-start
 slice_bounds-put-start c =

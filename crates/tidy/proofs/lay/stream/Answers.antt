@@ -8,7 +8,9 @@ overflow_cast-count c =
     omega (arith, ready_few a.size a.s.now a.n a.xs.now a.places.now a.out.now a.end c.requires)
 
 pub overflow_sub-count : goal.overflow_sub-count
-overflow_sub-count c = sub-t22 c
+overflow_sub-count c =
+    let a = c.args in
+    omega (arith, ready_few a.size a.s.now a.n a.xs.now a.places.now a.out.now a.end c.requires)
 
 pub paint-requires : goal.paint-requires
 paint-requires c =

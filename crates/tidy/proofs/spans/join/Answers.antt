@@ -2,7 +2,7 @@ use Prim.Native.Nat.{◌-◌, ◌%◌}
 use mathlib.Core.Path.{refl, sym, ◌∙◌}
 use native.Mathlib.Omega.{arith}
 use lib.ListN.{get_or, length-set}
-use Rattle.tidy.proofs.JoinTurns.{none-joined, index_less, first-start, turning_none, next_start, next-from, touch_place, turning_touch, turning_apart, turning_all}
+use Rattle.tidy.proofs.JoinTurns.{none-joined, index_less, first-start, turning_none, turning_at, next_start, next-from, touch_place, turning_touch, apart_place, turning_apart, turning_all}
 use borrow.Author.Rules.{rules}
 use Rattle.tidy.proofs.spans.join.Goals as goal
 
@@ -52,7 +52,10 @@ overflow_add-ends c =
     omega (arith, touch_place a.xs.now a.ends.now c.requires l.xs l.ends l.start l.end l.at l.k l.i l.invariant (search rules) _ _ refl refl (sym c.touch.ensures ∙ c.if-touch.true) _ c.later-end.ensures)
 
 pub overflow_cast-ends-then-touch : goal.overflow_cast-ends-then-touch
-overflow_cast-ends-then-touch c = cast-ends-2 c
+overflow_cast-ends-then-touch c =
+    let a = c.args in
+    let l = c.loop-i in
+    omega (arith, touch_place a.xs.now a.ends.now c.requires l.xs l.ends l.start l.end l.at l.k l.i l.invariant (search rules) _ _ refl refl (sym c.touch.ensures ∙ c.if-touch.true) _ c.later-end.ensures)
 
 pub bounds-ends-j-then-touch : goal.bounds-ends-j-then-touch
 bounds-ends-j-then-touch c =
@@ -66,10 +69,16 @@ loop-i-preserved-then-touch c =
     turning_touch a.xs.now a.ends.now c.requires l.xs l.ends l.start l.end l.at l.k l.i l.invariant (search rules) _ _ refl refl (sym c.touch.ensures ∙ c.if-touch.true) _ c.later-end.ensures
 
 pub overflow_add-at-in-loop-i : goal.overflow_add-at-in-loop-i
-overflow_add-at-in-loop-i c = add-at-2 c
+overflow_add-at-in-loop-i c =
+    let a = c.args in
+    let l = c.loop-i in
+    omega (arith, c.width.ensures.1, turning_at a.xs.now a.ends.now c.requires l.xs l.ends l.start l.end l.at l.k l.i l.invariant)
 
 pub overflow_cast-ends-in-loop-i : goal.overflow_cast-ends-in-loop-i
-overflow_cast-ends-in-loop-i c = cast-ends-3 c
+overflow_cast-ends-in-loop-i c =
+    let a = c.args in
+    let l = c.loop-i in
+    omega (arith, apart_place a.xs.now a.ends.now c.requires l.xs l.ends l.start l.end l.at l.k l.i l.invariant (search rules) _ _ refl refl (sym c.touch.ensures ∙ c.if-touch.false) _ c.width.ensures.0)
 
 pub bounds-ends-j-in-loop-i : goal.bounds-ends-j-in-loop-i
 bounds-ends-j-in-loop-i c =
