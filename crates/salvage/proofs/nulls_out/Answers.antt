@@ -16,13 +16,13 @@ bounds-out-at c =
 
 pub overflow_add-at : goal.overflow_add-at
 overflow_add-at c =
-    omega (arith, c.shared_slice_known-1.given c.loop-i.i)
+    omega (arith, c.type_inv.reaches c.loop-i.i)
 
 pub loop-i-preserved : goal.loop-i-preserved
 loop-i-preserved c =
     let a = c.args in
     let l = c.loop-i in
-    putting_more a.reaches.now a.out.now l.out l.at l.i l.invariant (search rules) (c.shared_slice_known-1.given l.i).fits
+    putting_more a.reaches.now a.out.now l.out l.at l.i l.invariant (search rules) (c.type_inv.reaches l.i).fits
 
 pub returns : goal.returns
 returns c =

@@ -1,7 +1,6 @@
 use native.Mathlib.Omega.{arith}
 use Rattle.salvage.proofs.Answers.{no_kind, cut_short, no-first, no_room, asks, all}
 use borrow.Author.Rules.{rules}
-use Rattle.salvage.proofs.Salvage.Tie as tie
 use Rattle.salvage.proofs.salvage.Goals as goal
 
 pub returns-then-size-eq0 : goal.returns-then-size-eq0
@@ -21,7 +20,7 @@ returns-then-s c =
 
 pub overflow_sub-announced : goal.overflow_sub-announced
 overflow_sub-announced c =
-    omega (arith, c.shared_slice_known-3-1.given 5)
+    omega (arith, c.type_inv.s 5)
 
 pub returns-then-out-offset : goal.returns-then-out-offset
 returns-then-out-offset c =
