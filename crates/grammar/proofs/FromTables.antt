@@ -1,6 +1,6 @@
 -- The windows that tables give have the tables' starts and ends, and null bytes 00; and the tables of windows that fit give those windows
 -- back, their null bytes 00. Assumes nothing.
-use Prim.Native.Nat.{ℕ, suc, ◌-◌}
+use Prim.Native.Nat.{ℕ, suc}
 use mathlib.Core.Path.{◌≡◌, refl, ap}
 use mathlib.Core.List.{List, [], ◌∷◌}
 use native.Mathlib.Omega.{arith}

@@ -1,5 +1,5 @@
 -- Data bytes one by one are one block. Assumes nothing.
-use Rattle.std.proofs.Common.{◌≡◌, ℕ, zero, suc, ◌+◌, ◌-◌, ◌%◌, ◌^◌, ◌<◌, ◌≤◌, Bool, true, false, eqb, leb, List, [], ◌∷◌, length, get_or, take, drop, set, sym, refl, ap, ◌∙◌, append_assoc, append-nil, not-suc-le-zero, arith, length-drop, drop_of_length-le, length-take-le, drop-cons, eq-eqb, eqb-true, le-leb}
+use Rattle.std.proofs.Common.{◌≡◌, ℕ, suc, ◌+◌, ◌-◌, ◌%◌, ◌^◌, ◌<◌, ◌≤◌, Bool, true, false, eqb, List, [], ◌∷◌, length, get_or, take, drop, set, sym, refl, ap, ◌∙◌, append_assoc, append-nil, not-suc-le-zero, arith, length-drop, drop_of_length-le, length-take-le, drop-cons, eq-eqb, eqb-true, le-leb}
 use mathlib.Core.Bool.{and-false}
 use native.Mathlib.Nat.{mod-add-mod}
 use lib.Seq.{sets, sets-eq}

@@ -1,5 +1,4 @@
 use mathlib.Core.Logic.{inr}
-use Prim.Native.Nat.{◌-◌}
 use borrow.Author.Rules.{rules}
 use native.Mathlib.Omega.{arith}
 use Rattle.cells.proofs.Count.{differs_next, differs-end}

@@ -1,4 +1,3 @@
-use Prim.Native.Nat.{◌-◌}
 use native.Mathlib.Omega.{arith}
 use Rattle.salvage.proofs.Keeping.{keeping_none, keeping-stop, in_order, keeping-more, keeping_all}
 use borrow.Author.Rules.{rules}

@@ -1,4 +1,3 @@
-use Prim.Native.Nat.{◌-◌}
 use native.Mathlib.Omega.{arith}
 use Rattle.salvage.proofs.Keeping.{putting_none, null_there, putting_more, putting_all}
 use borrow.Author.Rules.{rules}

@@ -1,6 +1,5 @@
-use Rattle.std.proofs.Common.{◌≡◌, ◌+◌, ◌≤◌, length, drop, ap, ◌∙◌, arith, rules}
-use Rattle.chain.specs.Paper.{more}
-use Rattle.machine.specs.Run.{Run, run, run_of}
+use Rattle.std.proofs.Common.{◌+◌, drop, ap, ◌∙◌, arith, rules}
+use Rattle.machine.specs.Run.{Run, run_of}
 use Rattle.machine.proofs.Feed.{run_at, run_end, run-over, run-rest, within}
 use Rattle.machine.proofs.run.feed.Goals as goal
 use Rattle.machine.proofs.run.feed.Goals.{then-bulky, else-bulky}

@@ -6,7 +6,6 @@ use Rattle.machine.specs.Run.{run, run_of, address_of}
 use Rattle.machine.proofs.Feed.{run_part, part_length}
 use Rattle.machine.proofs.Frame.{same_size, same_base}
 use Rattle.machine.proofs.Header.{header_part, fits_true}
-use borrow.Author.Tests.{not-false}
 use Rattle.machine.proofs.run.windows.Goals as goal
 
 pub loop-i-init : goal.loop-i-init
