@@ -1,4 +1,3 @@
-use Prim.Native.Nat.{◌-◌}
 use Rattle.tidy.proofs.Framing.{framing_none, framing_room, framing_more, framing_all}
 use borrow.Author.Rules.{rules}
 use Rattle.tidy.proofs.lay.frames.Goals as goal

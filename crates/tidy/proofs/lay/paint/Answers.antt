@@ -1,4 +1,3 @@
-use Prim.Native.Nat.{◌-◌}
 use native.Mathlib.Omega.{arith}
 use Rattle.tidy.proofs.Laying.{laying_none, laying_read, laying_more, laying_all}
 use borrow.Author.Rules.{rules}
