@@ -28,11 +28,6 @@ rest-requires c =
     let t = both (eqb c.loop-left.d.place.mode downward) (settled c.loop-left.d.place c.loop-left.g) (sym c.is_rest.ensures ∙ c.if-is_rest.true) in
     (l.0, t.1, t.0)
 
-pub shape_of-mem-then-is_rest : goal.shape_of-mem-then-is_rest
-shape_of-mem-then-is_rest c =
-    let l = c.loop-left.invariant in
-    search rules
-
 pub returns-then-is_rest : goal.returns-then-is_rest
 returns-then-is_rest c =
     let l = c.loop-left.invariant in
@@ -57,7 +52,6 @@ part-r-requires c =
     let s = part_of c.loop-left.d.place.mode a.e.now c.loop-left.g.counter c.free-k.result in
     let long = part_length c.loop-left.d.place.mode a.e.now c.loop-left.g.counter c.free-k.result reach in
     let b : Block c.loop-left.d c.loop-left.g s = record { going = l.0; free = f.2; some = omega (arith, long, f.0); most = omega (arith, long, r.few) } in
-    let reads = part_reads c.loop-left.d.place.mode a.e.now c.loop-left.g.counter c.free-k.result l.0.counter reach in
     (b, reach)
 
 pub shape_of-mem-then-r-ne-MORE : goal.shape_of-mem-then-r-ne-MORE
