@@ -40,10 +40,10 @@ module _ (kind mode : ℕ) (s lengths : List ℕ) (numbers figures : ℕ) where
         unknown_kind h = rw (rest, eq-eqb (size_of kind) 0 h)
 
         module _ (known : size_of kind ≡ 0 → ⊥) where
-          pub other-mode : not (from first_mode two_preambles mode) ≡ true → bad_mode ≡ sheet_number kind mode s lengths numbers figures
+          pub other-mode : from first_mode two_preambles mode ≡ false → bad_mode ≡ sheet_number kind mode s lengths numbers figures
           other-mode h = rw (rest, ne_eqb (size_of kind) 0 known, h)
 
-          module _ (good : not (from first_mode two_preambles mode) ≡ false) where
+          module _ (good : from first_mode two_preambles mode ≡ true) where
             pub few_numbers : numbers < length lengths → too_short ≡ sheet_number kind mode s lengths numbers figures
             few_numbers h = rw (rest, ne_eqb (size_of kind) 0 known, good, lt-ltb numbers (length lengths) h)
 

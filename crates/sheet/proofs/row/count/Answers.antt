@@ -35,7 +35,7 @@ walk-requires c =
     let m = a.marks.now in
     let low = a.w.low in
     let top = a.w.top in
-    let ys = c.clear.new.marks.0 in
+    let ys = c.clear.new.marks in
     let le : length (put_mid low (top - low) m ys) ≡ length m = same_len_mid low (top - low) m ys (ap (λ (l : List ℕ). length l) c.clear.ensures ∙ length-replicate {A = ℕ} (length (take (top - low) (drop low m))) 0) in
     (subst (λ (n : ℕ). Writing a.c n) (sym le) c.requires.0, c.requires.1, c.requires.2, c.requires.3)
 
@@ -48,9 +48,9 @@ slice_bounds-marked-end c =
     let m = a.marks.now in
     let low = a.w.low in
     let top = a.w.top in
-    let ys = c.clear.new.marks.0 in
+    let ys = c.clear.new.marks in
     let le : length (put_mid low (top - low) m ys) ≡ length m = same_len_mid low (top - low) m ys (ap (λ (l : List ℕ). length l) c.clear.ensures ∙ length-replicate {A = ℕ} (length (take (top - low) (drop low m))) 0) in
-    let k = ap (λ (l : List ℕ). length l) c.walk.ensures.marks-left ∙ length_marked (puts_of a.c (bytes_after a.s.now a.p)) (put_mid low (top - low) m ys) ∙ le in
+    let k = ap (λ (l : List ℕ). length l) c.walk.ensures.marks_left ∙ length_marked (puts_of a.c (bytes_after a.s.now a.p)) (put_mid low (top - low) m ys) ∙ le in
     omega (arith, c.requires.5.inside, k)
 
 pub marked-cells-requires : goal.marked-cells-requires
@@ -59,9 +59,9 @@ marked-cells-requires c =
     let m = a.marks.now in
     let low = a.w.low in
     let top = a.w.top in
-    let ys = c.clear.new.marks.0 in
+    let ys = c.clear.new.marks in
     let le : length (put_mid low (top - low) m ys) ≡ length m = same_len_mid low (top - low) m ys (ap (λ (l : List ℕ). length l) c.clear.ensures ∙ length-replicate {A = ℕ} (length (take (top - low) (drop low m))) 0) in
-    let k = ap (λ (l : List ℕ). length l) c.walk.ensures.marks-left ∙ length_marked (puts_of a.c (bytes_after a.s.now a.p)) (put_mid low (top - low) m ys) ∙ le in
+    let k = ap (λ (l : List ℕ). length l) c.walk.ensures.marks_left ∙ length_marked (puts_of a.c (bytes_after a.s.now a.p)) (put_mid low (top - low) m ys) ∙ le in
     part_small _ low top (omega (arith, c.requires.4, k))
 
 pub slice_bounds-marked-start-2 : goal.slice_bounds-marked-start-2
@@ -73,9 +73,9 @@ slice_bounds-marked-end-2 c =
     let m = a.marks.now in
     let low = a.w.low in
     let top = a.w.top in
-    let ys = c.clear.new.marks.0 in
+    let ys = c.clear.new.marks in
     let le : length (put_mid low (top - low) m ys) ≡ length m = same_len_mid low (top - low) m ys (ap (λ (l : List ℕ). length l) c.clear.ensures ∙ length-replicate {A = ℕ} (length (take (top - low) (drop low m))) 0) in
-    let k = ap (λ (l : List ℕ). length l) c.walk.ensures.marks-left ∙ length_marked (puts_of a.c (bytes_after a.s.now a.p)) (put_mid low (top - low) m ys) ∙ le in
+    let k = ap (λ (l : List ℕ). length l) c.walk.ensures.marks_left ∙ length_marked (puts_of a.c (bytes_after a.s.now a.p)) (put_mid low (top - low) m ys) ∙ le in
     omega (arith, c.requires.5.inside, k)
 
 pub marked-again-requires : goal.marked-again-requires
@@ -84,9 +84,9 @@ marked-again-requires c =
     let m = a.marks.now in
     let low = a.w.low in
     let top = a.w.top in
-    let ys = c.clear.new.marks.0 in
+    let ys = c.clear.new.marks in
     let le : length (put_mid low (top - low) m ys) ≡ length m = same_len_mid low (top - low) m ys (ap (λ (l : List ℕ). length l) c.clear.ensures ∙ length-replicate {A = ℕ} (length (take (top - low) (drop low m))) 0) in
-    let k = ap (λ (l : List ℕ). length l) c.walk.ensures.marks-left ∙ length_marked (puts_of a.c (bytes_after a.s.now a.p)) (put_mid low (top - low) m ys) ∙ le in
+    let k = ap (λ (l : List ℕ). length l) c.walk.ensures.marks_left ∙ length_marked (puts_of a.c (bytes_after a.s.now a.p)) (put_mid low (top - low) m ys) ∙ le in
     part_small _ low top (omega (arith, c.requires.4, k))
 
 pub shape_of-marks : goal.shape_of-marks
@@ -95,9 +95,9 @@ shape_of-marks c =
     let m = a.marks.now in
     let low = a.w.low in
     let top = a.w.top in
-    let ys = c.clear.new.marks.0 in
+    let ys = c.clear.new.marks in
     let le : length (put_mid low (top - low) m ys) ≡ length m = same_len_mid low (top - low) m ys (ap (λ (l : List ℕ). length l) c.clear.ensures ∙ length-replicate {A = ℕ} (length (take (top - low) (drop low m))) 0) in
-    ap (λ (l : List ℕ). length l) c.walk.ensures.marks-left ∙ length_marked (puts_of a.c (bytes_after a.s.now a.p)) (put_mid low (top - low) m ys) ∙ le
+    ap (λ (l : List ℕ). length l) c.walk.ensures.marks_left ∙ length_marked (puts_of a.c (bytes_after a.s.now a.p)) (put_mid low (top - low) m ys) ∙ le
 
 pub returns : goal.returns
 returns c =
@@ -105,13 +105,13 @@ returns c =
     let m = a.marks.now in
     let low = a.w.low in
     let top = a.w.top in
-    let ys = c.clear.new.marks.0 in
+    let ys = c.clear.new.marks in
     let le : length (put_mid low (top - low) m ys) ≡ length m = same_len_mid low (top - low) m ys (ap (λ (l : List ℕ). length l) c.clear.ensures ∙ length-replicate {A = ℕ} (length (take (top - low) (drop low m))) 0) in
     let ps = puts_of a.c (bytes_after a.s.now a.p) in
     let after : List ℕ = put_mid low (top - low) m ys in
     let x = c.requires.5 in
     let z : (j : ℕ) → low ≤ j → j < top → get_or after j 0 ≡ 0 = λ j h g. ap (λ (l : List ℕ). get_or (put_mid low (top - low) m l) j 0) c.clear.ensures ∙ cleared m low top j h g x.inside in
-    let left = c.walk.ensures.marks-left in
+    let left = c.walk.ensures.marks_left in
     let told : (l : List ℕ) → l ≡ marked after ps → (k : ℕ) → 0 < k → k ≤ 2 → marks_from (take (top - low) (drop low l)) k 0 (length (take (top - low) (drop low l))) ≡ cells_stored (length m) k ps =
     λ l e k h g. ap (λ (y : List ℕ). marks_from (take (top - low) (drop low y)) k 0 (length (take (top - low) (drop low y)))) e
     ∙ marks_count ps after low top k g x.order (omega (arith, x.inside, le)) z ∙ sym (cells-between ps (length m) false m m a.w x k h) in

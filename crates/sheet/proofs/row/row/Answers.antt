@@ -19,7 +19,7 @@ pub count-n-requires : goal.count-n-requires
 count-n-requires c =
     let a = c.args in
     let x = c.walk-w.ensures in
-    let l = ap (λ (m : List ℕ). length m) x.marks-left ∙ c.requires.5 in (
+    let l = ap (λ (m : List ℕ). length m) x.marks_left ∙ c.requires.5 in (
       subst (λ (n : ℕ). Writing a.c n) (sym l) c.requires.0,
       c.requires.1,
       c.requires.2,
@@ -68,7 +68,7 @@ returns c =
     let s : length mem ≡ length old = ap (λ (m : List ℕ). length m) c.requires.7 ∙ put-length ps old in
     let w = c.walk-w.result in
     let x = walk_sized c.requires.5 c.walk-w.ensures in
-    let l = ap (λ (m : List ℕ). length m) c.walk-w.ensures.marks-left ∙ c.requires.5 in
+    let l = ap (λ (m : List ℕ). length m) c.walk-w.ensures.marks_left ∙ c.requires.5 in
     let k = c.count-n.ensures in
     record {
       value = row_made a.mode a.p a.a ps old mem x.stored (k.0 ∙ ap (λ (n : ℕ). cells_stored n 1 ps) l) (k.1 ∙ ap (λ (n : ℕ). cells_stored n 2 ps) l)
