@@ -10,12 +10,12 @@ pub loop-i-init : goal.loop-i-init
 loop-i-init c = (search rules, search rules, zero-add (sum c.args.lengths.now))
 
 pub overflow_add-t : goal.overflow_add-t
-overflow_add-t c = omega (arith, c.shared_slice_known-1.given c.loop-i.i)
+overflow_add-t c = omega (arith, c.type_inv.lengths c.loop-i.i)
 
 pub loop-i-preserved : goal.loop-i-preserved
 loop-i-preserved c =
     let e = sum_turn c.args.lengths.now c.loop-i.i (omega arith) in
-    let f = c.shared_slice_known-1.given c.loop-i.i in
+    let f = c.type_inv.lengths c.loop-i.i in
     (search rules, omega (arith, f), omega arith)
 
 pub returns : goal.returns

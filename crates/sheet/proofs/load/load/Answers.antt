@@ -19,7 +19,7 @@ overflow_cast-k c = Fits-mask c.args.p 3 tt
 pub returns-then-k-eq0 : goal.returns-then-k-eq0
 returns-then-k-eq0 c =
     let a = c.args in
-    let e = at_byte a.s.now (λ i. (c.shared_slice_known-1.given i).fits) a.p c.if-k-eq0.true c.requires.1 in
+    let e = at_byte a.s.now (λ i. (c.type_inv.s i).fits) a.p c.if-k-eq0.true c.requires.1 in
     record { value = c.taken.ensures.value ∙ ap (λ (x : List ℕ). fed_of (run_of (run a.c a.mem.now more) x)) e; mem_after = c.taken.ensures.mem_after ∙ ap (λ (x : List ℕ). (run_of (run a.c a.mem.now more) x).memory) e }
 
 pub load_pieces-requires : goal.load_pieces-requires

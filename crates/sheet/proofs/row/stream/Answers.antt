@@ -42,8 +42,8 @@ row-row-requires c =
     let p = c.position-p.result in
     let e = c.position-p.ensures.0 in
     let d : Device = device a.c mem in
-    let u = bytes_by s (λ i h. (c.shared_slice_known-1.given i).fits) in
-    let i : Idle d = record { ready = c.requires.0; bytes = bytes_by mem (λ i h. (c.slice_known-1.given i).fits) } in
+    let u = bytes_by s (λ i h. (c.type_inv.s i).fits) in
+    let i : Idle d = record { ready = c.requires.0; bytes = bytes_by mem (λ i h. search rules) } in
     let st : c.start-o.result.chain ≡ started d a.mode = ap (λ (x : Made). x.chain) c.start-o.ensures.made in
     let r : Run = run_of (run (started d a.mode) mem more) (bytes_after s p) in
     let f : c.load-f.result ≡ fed_of r = c.load-f.ensures.value ∙ ap (λ (c : Chain). fed_of (run_of (run c mem more) (bytes_after s p))) st in (
@@ -65,8 +65,8 @@ returns c =
     let p = c.position-p.result in
     let e = c.position-p.ensures.0 in
     let d : Device = device a.c mem in
-    let u = bytes_by s (λ i h. (c.shared_slice_known-1.given i).fits) in
-    let i : Idle d = record { ready = c.requires.0; bytes = bytes_by mem (λ i h. (c.slice_known-1.given i).fits) } in
+    let u = bytes_by s (λ i h. (c.type_inv.s i).fits) in
+    let i : Idle d = record { ready = c.requires.0; bytes = bytes_by mem (λ i h. search rules) } in
     let st : c.start-o.result.chain ≡ started d a.mode = ap (λ (x : Made). x.chain) c.start-o.ensures.made in
     let r : Run = run_of (run (started d a.mode) mem more) (bytes_after s p) in
     let f : c.load-f.result ≡ fed_of r = c.load-f.ensures.value ∙ ap (λ (c : Chain). fed_of (run_of (run c mem more) (bytes_after s p))) st in

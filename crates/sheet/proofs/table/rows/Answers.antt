@@ -18,7 +18,7 @@ pub loop-i-init : goal.loop-i-init
 loop-i-init c =
     let a = c.args in
     let p = c.requires in
-    let i : Idle (device a.c a.mem.now) = record { ready = p.0; bytes = bytes_by a.mem.now (λ i h. (c.slice_known-1.given i).fits) } in (
+    let i : Idle (device a.c a.mem.now) = record { ready = p.0; bytes = bytes_by a.mem.now (λ i h. (c.type_inv.mem i).fits) } in (
       subst (λ (r : Sheet). Entering a.mode a.streams.now a.lengths.now (device a.c a.mem.now) a.numbers.now a.figures.now (device a.c a.mem.now) a.numbers.now a.figures.now r 0 0)
           (sym c.zeros-sums.ensures) (entering_begins a.mode a.streams.now a.lengths.now (device a.c a.mem.now) a.numbers.now a.figures.now i p.5),
       p.2,
@@ -32,7 +32,7 @@ overflow_add-e c =
     let a = c.args in
     let ss = a.streams.now in
     let ls = a.lengths.now in
-    let u = bytes_by ss (λ i h. (c.shared_slice_known-1.given i).fits) in
+    let u = bytes_by ss (λ i h. (c.type_inv.streams i).fits) in
     let x = c.loop-i.invariant.0 in
     let d₀ : Device = device a.c a.mem.now in
     let d : Device = device c.loop-i.d c.loop-i.mem in
@@ -44,7 +44,7 @@ slice_bounds-stream-end c =
     let a = c.args in
     let ss = a.streams.now in
     let ls = a.lengths.now in
-    let u = bytes_by ss (λ i h. (c.shared_slice_known-1.given i).fits) in
+    let u = bytes_by ss (λ i h. (c.type_inv.streams i).fits) in
     let x = c.loop-i.invariant.0 in
     let d₀ : Device = device a.c a.mem.now in
     let d : Device = device c.loop-i.d c.loop-i.mem in
@@ -55,7 +55,7 @@ stream-r-requires c =
     let a = c.args in
     let ss = a.streams.now in
     let ls = a.lengths.now in
-    let u = bytes_by ss (λ i h. (c.shared_slice_known-1.given i).fits) in
+    let u = bytes_by ss (λ i h. (c.type_inv.streams i).fits) in
     let x = c.loop-i.invariant.0 in
     let d₀ : Device = device a.c a.mem.now in
     let d : Device = device c.loop-i.d c.loop-i.mem in
@@ -73,7 +73,7 @@ add-sums-requires c =
     let a = c.args in
     let ss = a.streams.now in
     let ls = a.lengths.now in
-    let u = bytes_by ss (λ i h. (c.shared_slice_known-1.given i).fits) in
+    let u = bytes_by ss (λ i h. (c.type_inv.streams i).fits) in
     let x = c.loop-i.invariant.0 in
     let d₀ : Device = device a.c a.mem.now in
     let d : Device = device c.loop-i.d c.loop-i.mem in
@@ -91,7 +91,7 @@ loop-i-preserved c =
     let a = c.args in
     let ss = a.streams.now in
     let ls = a.lengths.now in
-    let u = bytes_by ss (λ i h. (c.shared_slice_known-1.given i).fits) in
+    let u = bytes_by ss (λ i h. (c.type_inv.streams i).fits) in
     let x = c.loop-i.invariant.0 in
     let d₀ : Device = device a.c a.mem.now in
     let d : Device = device c.loop-i.d c.loop-i.mem in
