@@ -11,9 +11,8 @@ use borrow.Rule.Slice.PartMut.{put_mid, Post-is, put_same}
 use lib.Bits.{bit_xor, xor_self}
 use lib.Count.{ones}
 use lib.Dec.{eqb, leb}
-use lib.ListN.{length, get_or, set, take, drop, replicate, length-take, length-drop, length-append, length-replicate, length-set, get_or-replicate, get_or-append}
+use lib.ListN.{length, get_or, set, take, drop, replicate, length-take, length-drop, length-replicate, length-set, get_or-replicate, get_or-append}
 use lib.Seq.{get_or-take, get_or-drop, get_or-append-add, get_or-set_same, get_or-set_other, ext_get_or, length-take-le}
-use Rattle.chain.specs.Rules.{pick}
 use Rattle.chain.proofs.ByCases.{by_test}
 use Rattle.machine.specs.declared.Answer.{Answer}
 use Rattle.grammar.specs.Stores.{Put, put_into}

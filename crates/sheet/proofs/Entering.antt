@@ -1,13 +1,13 @@
 -- The rows of a sheet entered one after another: the sums and the tables so far, with the rows that are still to come, are those of the whole. Assumes nothing.
-use Prim.Native.Nat.{ℕ, suc, ◌+◌, ◌-◌, ◌*◌, ◌^◌, ◌<◌, ◌≤◌}
+use Prim.Native.Nat.{ℕ, suc, ◌+◌, ◌-◌, ◌*◌, ◌<◌, ◌≤◌}
 use mathlib.Core.Bool.{true}
-use mathlib.Core.Path.{◌≡◌, refl, sym, ap, ap₂, ◌∙◌}
+use mathlib.Core.Path.{◌≡◌, refl, sym, ap, ◌∙◌}
 use mathlib.Core.List.{List, [], ◌∷◌}
 use native.Mathlib.Nat.{zero-add, add-zero, add_assoc}
 use native.Mathlib.Numerals.{add-one}
 use native.Mathlib.Omega.{arith}
-use lib.ListN.{length, get_or, set, take, drop, length-take, length-drop, length-set, drop_of_length-le}
-use lib.Seq.{sets, length-sets, drop-cons, drop-drop, length-take-le}
+use lib.ListN.{length, get_or, set, take, drop, length-drop, drop_of_length-le}
+use lib.Seq.{sets, drop-cons, drop-drop, length-take-le}
 use Rattle.chain.specs.declared.Chain.{Chain}
 use Rattle.chain.specs.declared.Place.{Place}
 use Rattle.chain.specs.Paper.{first_mode, two_preambles, most_streams, most_bytes, done}
@@ -17,7 +17,7 @@ use Rattle.chain.proofs.Bytes.{bytes_take, bytes_drop}
 use Rattle.sheet.specs.declared.Sheet.{Sheet}
 use Rattle.sheet.specs.Stream.{Device, device, left_by, row_of}
 use Rattle.sheet.specs.Sheet.{streams_of, rows_of, sum, sums_of, numbers_of, figures_a_row, figures_of, refused_sheet}
-use Rattle.sheet.specs.Steps.{Ready, plus, Small}
+use Rattle.sheet.specs.Steps.{plus, Small}
 use Rattle.sheet.proofs.Bounds.{RowBounds, row_bounds}
 use Rattle.sheet.proofs.Left.{Idle, left-idle, left-size}
 

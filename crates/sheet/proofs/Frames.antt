@@ -1,27 +1,26 @@
 -- Bytes of a write that store nothing: one byte, and a window's null byte, start and end at once. Assumes nothing.
-use Prim.Native.Nat.{ℕ, zero, suc, ◌+◌, ◌-◌, ◌*◌, ◌/◌, ◌%◌, ◌^◌, ◌<◌, ◌≤◌}
+use Prim.Native.Nat.{ℕ, zero, suc, ◌+◌, ◌-◌, ◌*◌, ◌%◌, ◌<◌, ◌≤◌}
 use mathlib.Core.Bool.{true}
 use mathlib.Core.Logic.{◌≢◌}
 use mathlib.Core.Path.{◌≡◌, refl, sym, ap, ap₂, subst, ◌∙◌}
 use mathlib.Core.List.{List, [], ◌∷◌, ◌++◌}
 use native.Mathlib.Nat.{mod-eq_of_lt}
 use native.Mathlib.Omega.{arith}
-use borrow.Author.Tests.{eq-eqb}
 use lib.ListN.{length, replicate, length-replicate}
 use Rattle.chain.specs.declared.Chain.{Chain}
 use Rattle.chain.specs.declared.Made.{Made}
-use Rattle.chain.specs.Paper.{at_null, at_start, at_start_low, at_end, at_end_low, at_data, writing, done, more}
+use Rattle.chain.specs.Paper.{at_null, at_data, writing, more}
 use Rattle.chain.specs.Set.{with_place}
 use Rattle.chain.specs.Kinds.{size_here}
 use Rattle.chain.specs.Window.{fits_of}
 use Rattle.chain.specs.Bytes.{Bytes}
-use Rattle.awaited.specs.Byte.{number_of, advance_of}
-use Rattle.machine.specs.Run.{missed_of, memory_of, Run, run, went_on, gone_on, run_of}
+use Rattle.awaited.specs.Byte.{advance_of}
+use Rattle.machine.specs.Run.{memory_of, Run, run, went_on, gone_on, run_of}
 use Rattle.machine.specs.Calls.{ahead_of}
 use Rattle.machine.specs.Block.{headed_of}
 use Rattle.machine.proofs.Header.{header_at, fits_true}
 use Rattle.machine.proofs.Runs.{run_went, run-first, run_lasts}
-use Rattle.grammar.specs.Stores.{Put, puts_of}
+use Rattle.grammar.specs.Stores.{puts_of}
 use Rattle.grammar.proofs.Runs.Keeps.{write_misses, run_open}
 use Rattle.grammar.proofs.Runs.Stays.{went_stays, run_stays}
 use Rattle.hunt.specs.Bits.{byte_at, bytes_from}

@@ -1,5 +1,5 @@
 -- One stream as the code loads it: where its bytes begin, the run that is open, its row and the device that it leaves. Assumes nothing.
-use Prim.Native.Nat.{ℕ, suc, ◌+◌, ◌-◌, ◌*◌, ◌/◌, ◌^◌, ◌<◌, ◌≤◌}
+use Prim.Native.Nat.{ℕ, ◌+◌, ◌*◌, ◌/◌, ◌<◌, ◌≤◌}
 use mathlib.Core.Bool.{Bool, true, false, ◌&&◌}
 use mathlib.Core.Path.{◌≡◌, refl, sym, ap, ap₂, ◌∙◌}
 use mathlib.Core.List.{List, [], ◌∷◌}
@@ -10,13 +10,12 @@ use lib.Dec.{eqb}
 use lib.ListN.{length, get_or}
 use Rattle.chain.specs.declared.Chain.{Chain}
 use Rattle.chain.specs.declared.Place.{Place}
-use Rattle.chain.specs.Paper.{serial, first_mode, two_preambles, most_bytes, writing, more}
+use Rattle.chain.specs.Paper.{serial, first_mode, two_preambles, most_bytes, more}
 use Rattle.chain.specs.Rules.{pick, from}
 use Rattle.chain.specs.Set.{with_place, closed_place}
 use Rattle.chain.specs.Kinds.{size_of, base_of}
 use Rattle.chain.specs.Bytes.{Bytes}
 use Rattle.chain.proofs.Bytes.{bytes-at}
-use Rattle.chain.proofs.ByCases.{by_test}
 use Rattle.chain.proofs.Sizes.{size_most, size-least}
 use Rattle.chain.proofs.Sound.{state_usable}
 use Rattle.chain.proofs.BadChain.{m_known}
@@ -28,10 +27,10 @@ use Rattle.hunt.specs.Hunt.{nowhere, found_at, hunted_bytes}
 use Rattle.hunt.proofs.Found.{found_le, found_fits}
 use Rattle.hunt.proofs.Bytes.{bytes_rest, whole_is}
 use Rattle.grammar.specs.Stores.{puts_of}
-use Rattle.sheet.specs.Stream.{Device, device, shift_of, hunt_fails, bytes_of_stream, started, load_of, stores_of, left_by, unfound_row, loaded_row, row_of}
+use Rattle.sheet.specs.Stream.{Device, shift_of, hunt_fails, bytes_of_stream, started, load_of, stores_of, left_by, unfound_row, row_of}
 use Rattle.sheet.specs.Steps.{bytes_after, Ready, Writing, row_from}
 use Rattle.sheet.proofs.Bounds.{row_bounds}
-use Rattle.sheet.proofs.Left.{Idle, started_is, started_feeds, started-kinds, started-registers, device_of, left-loaded, left-unfound}
+use Rattle.sheet.proofs.Left.{Idle, started_is, started_feeds, started-kinds, started-registers, left-loaded}
 
 -- ---- where its bytes begin
 

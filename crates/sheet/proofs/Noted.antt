@@ -1,27 +1,24 @@
 -- A walk over a stream's bytes: what it has noted of the stores so far, and how it goes on. Assumes nothing.
-use Prim.Native.Nat.{ℕ, zero, suc, ◌+◌, ◌-◌, ◌<◌, ◌≤◌}
+use Prim.Native.Nat.{ℕ, suc, ◌+◌, ◌-◌, ◌<◌, ◌≤◌}
 use mathlib.Core.Bool.{Bool, true, false, ◌&&◌, true≢false}
-use mathlib.Core.Logic.{◌≢◌, ◌⊎◌, ⊎_elim}
 use mathlib.Core.Path.{◌≡◌, refl, sym, ap, ◌∙◌}
 use mathlib.Core.List.{List, [], ◌∷◌, ◌++◌, append-nil, append_assoc}
 use native.Mathlib.Nat.{zero-add}
 use native.Mathlib.Omega.{arith}
-use borrow.Author.Tests.{eqb-true, ne_eqb, ltb-true, ltb-false, leb-true, lt-ltb, le-ltb}
+use borrow.Author.Tests.{eqb-true, ne_eqb, ltb-true, ltb-false, leb-true}
 use lib.Dec.{eqb, ltb, leb}
 use lib.ListN.{length, get_or, set, take, drop, length-append, take-append-drop, length-set}
 use lib.Seq.{take-suc-set, drop-set-lt, drop-cons}
 use Rattle.chain.specs.declared.Chain.{Chain}
-use Rattle.chain.specs.Paper.{most_bytes, at_data, writing, more}
+use Rattle.chain.specs.Paper.{most_bytes, at_data}
 use Rattle.chain.specs.Rules.{pick}
 use Rattle.chain.proofs.ByCases.{by_test}
-use Rattle.awaited.specs.Byte.{number_of}
-use Rattle.machine.specs.Run.{address_of, gone_on}
 use Rattle.machine.specs.Calls.{past_of}
 use Rattle.grammar.specs.Stores.{Put, puts_of}
 use Rattle.sheet.specs.declared.walk.Walked.{Walked}
 use Rattle.sheet.specs.Count.{one_if, times_in}
 use Rattle.sheet.specs.Steps.{Writing, bump, marked, bumped, bumped_part, lesser, greater, noted_of, ended_of, Walk}
-use Rattle.sheet.proofs.Stored.{puts_at, over_puts, frame_puts, block_puts, writing_gone, writing_past, Awaiting, awaiting}
+use Rattle.sheet.proofs.Stored.{puts_at, block_puts, writing_past, Awaiting, awaiting}
 
 -- ---- how often a cell is stored into
 

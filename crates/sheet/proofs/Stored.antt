@@ -10,28 +10,26 @@ use borrow.Author.Tests.{eq-eqb, ne_eqb, le-leb}
 use lib.Dec.{eqb, leb, ltb, lit<}
 use lib.ListN.{length, get_or, replicate, length-replicate}
 use Rattle.chain.specs.declared.Chain.{Chain}
-use Rattle.chain.specs.declared.Place.{Place}
-use Rattle.chain.specs.Paper.{at_control, at_data, writing, checking, done, more}
+use Rattle.chain.specs.Paper.{at_control, at_data, writing, more}
 use Rattle.chain.specs.Rules.{pick}
 use Rattle.chain.specs.Set.{with_next, with_place}
 use Rattle.chain.specs.Kinds.{size_of, base_of, size_here}
-use Rattle.chain.specs.State.{feed_number}
 use Rattle.chain.specs.Bytes.{Bytes}
 use Rattle.chain.proofs.ByCases.{by_test}
 use Rattle.chain.proofs.Sizes.{size_most}
-use Rattle.chain.proofs.Sound.{Sound, feed_sound, sound_feed, feed_is_open}
-use Rattle.awaited.specs.Byte.{awaits, number_of, passed_of}
-use Rattle.machine.specs.Run.{writes, address_of, missed_of, counted, Run, run, went_on, gone_on, run_of}
+use Rattle.chain.proofs.Sound.{feed_sound, sound_feed, feed_is_open}
+use Rattle.awaited.specs.Byte.{number_of, passed_of}
+use Rattle.machine.specs.Run.{writes, address_of, counted, Run, run, went_on, gone_on, run_of}
 use Rattle.machine.specs.Calls.{past_of}
 use Rattle.machine.specs.Block.{misses_of, laid_of}
 use Rattle.machine.proofs.Block.{block, block_of, data_number, data_step}
 use Rattle.machine.proofs.Runs.{step_went, registers-length, run_lasts}
-use Rattle.grammar.specs.Sent.{Target, framing, register, cell}
-use Rattle.grammar.specs.Stores.{Put, aim, walk_of, put_of, puts_in, puts_of}
+use Rattle.grammar.specs.Sent.{framing, register}
+use Rattle.grammar.specs.Stores.{Put, aim, put_of, puts_of}
 use Rattle.grammar.proofs.Walk.{walk_on, walk_over}
 use Rattle.grammar.proofs.Runs.Keeps.{write_misses, went_sound, run_open}
 use Rattle.grammar.proofs.Runs.Stays.{went_stays}
-use Rattle.closing.proofs.Sound.{Within, within}
+use Rattle.closing.proofs.Sound.{within}
 use Rattle.sheet.specs.Steps.{Writing}
 
 -- bytes to cells one after another, from the cell i on

@@ -1,14 +1,10 @@
 -- The turns of a walk over the bytes from bit k of byte q on. Assumes nothing.
-use Prim.Native.Nat.{ℕ, suc, ◌+◌, ◌-◌, ◌*◌, ◌/◌, ◌%◌, ◌<◌, ◌≤◌}
+use Prim.Native.Nat.{ℕ, ◌+◌, ◌-◌, ◌*◌, ◌/◌, ◌<◌, ◌≤◌}
 use mathlib.Core.Bool.{Bool, true, false}
-use mathlib.Core.Logic.{◌≢◌}
 use mathlib.Core.Path.{◌≡◌, refl, sym, ap, ap₂, ◌∙◌}
-use mathlib.Core.List.{List, [], ◌∷◌, ◌++◌}
-use native.Mathlib.Nat.{mod-eq_of_lt}
+use mathlib.Core.List.{List, [], ◌++◌}
 use native.Mathlib.Omega.{arith}
-use borrow.Author.Tests.{ne_eqb, eq-eqb}
-use lib.Bits.{bit_and, and_mask, mask_lt}
-use lib.Dec.{eqb}
+use lib.Bits.{bit_and}
 use lib.ListN.{length}
 use Rattle.chain.specs.declared.Chain.{Chain}
 use Rattle.chain.specs.declared.Made.{Made}
@@ -18,12 +14,11 @@ use Rattle.awaited.specs.Byte.{number_of}
 use Rattle.machine.specs.Run.{writes, gone_on}
 use Rattle.machine.specs.Calls.{past_of, ahead_of}
 use Rattle.grammar.specs.Stores.{Put, walk_of, puts_in, puts_of}
-use Rattle.hunt.specs.Bits.{byte_at, bytes_from, whole_from}
+use Rattle.hunt.specs.Bits.{bytes_from, whole_from}
 use Rattle.hunt.proofs.Bytes.{length-bytes, bytes-append, whole_is}
 use Rattle.hunt.proofs.Windows.{place_split}
 use Rattle.sheet.specs.declared.walk.Walked.{Walked}
 use Rattle.sheet.specs.Steps.{rest_at, Writing, bumped_part, noted_of, ended_of, Walk}
-use Rattle.sheet.proofs.Stored.{over_puts}
 use Rattle.sheet.proofs.Noted.{Walking, walk_frame, walk_data, walk_ends}
 
 -- all of them

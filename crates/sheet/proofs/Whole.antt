@@ -1,25 +1,21 @@
 -- The call: a refusal, and the rows of one reset device. Assumes nothing.
-use Prim.Native.Nat.{ℕ, zero, suc, ◌*◌, ◌≤◌}
-use mathlib.Core.Bool.{true, false, not}
+use Prim.Native.Nat.{ℕ, zero, suc, ◌≤◌}
+use mathlib.Core.Bool.{true, false}
 use mathlib.Core.Logic.{◌≢◌}
 use mathlib.Core.Path.{◌≡◌, refl, sym, ap, ◌∙◌}
-use mathlib.Core.List.{List, [], ◌∷◌, ◌++◌}
+use mathlib.Core.List.{List, ◌∷◌}
 use native.Mathlib.Omega.{arith}
 use borrow.Author.Tests.{eq-eqb, ne_eqb}
 use lib.Dec.{eqb}
-use lib.ListN.{length, take, drop, replicate, length-replicate}
-use lib.Seq.{sets, length-take-le}
-use Rattle.chain.specs.declared.Chain.{Chain}
-use Rattle.chain.specs.declared.Made.{Made}
+use lib.ListN.{length, take, replicate}
+use lib.Seq.{sets}
 use Rattle.chain.specs.Paper.{done}
-use Rattle.chain.specs.Rules.{pick}
 use Rattle.chain.specs.Kinds.{size_of}
-use Rattle.chain.specs.Calls.{fresh_chain, new_of, chain_number}
-use Rattle.chain.specs.Output.{over}
+use Rattle.chain.specs.Calls.{new_of, chain_number}
 use Rattle.chain.proofs.Over.{copied}
 use Rattle.sheet.specs.declared.Sheet.{Sheet}
-use Rattle.sheet.specs.Stream.{Device, device, reset_device}
-use Rattle.sheet.specs.Sheet.{streams_of, rows_of, sums_of, numbers_of, figures_a_row, figures_of, sheet_number, refused_sheet, sheet_rows, sheet_of, LoadSheet}
+use Rattle.sheet.specs.Stream.{Device, reset_device}
+use Rattle.sheet.specs.Sheet.{streams_of, rows_of, sums_of, numbers_of, figures_of, sheet_number, refused_sheet, sheet_rows, sheet_of, LoadSheet}
 use Rattle.sheet.proofs.Left.{good_chain}
 use Rattle.sheet.proofs.Accepted.{accepted}
 use Rattle.sheet.proofs.Rows.{numbers_length, figures_length, rows-length, streams_length}
