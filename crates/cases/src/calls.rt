@@ -6,6 +6,8 @@ use crate::{sheets, show};
 use chain::{Chain, Made, Place};
 use eprom::{Fetched, Fetcher};
 use machine::Fed;
+use std::io;
+use std::io::Write;
 
 // What stands in the lister's tables before the call.
 const WORD: u16 = 0xeeee;
@@ -19,18 +21,21 @@ pub struct Board {
     pub fetcher: Fetcher,
 }
 
-fn state(c: Chain) {
+fn state(to: &mut impl Write, c: Chain) -> io::Result<()> {
     let ks = c.kinds;
     let rs = c.registers;
     let p = c.place;
-    show::byte(c.count);
-    show::group(&ks);
-    show::group(&rs);
-    show::group(&[
-        p.running, p.mode, p.check, p.device, p.awaited, p.left, p.control,
-    ]);
-    show::words(&[p.start, p.end, p.next]);
-    show::longs(&[p.taken, p.mismatches]);
+    show::byte(to, c.count)?;
+    show::group(to, &ks)?;
+    show::group(to, &rs)?;
+    show::group(
+        to,
+        &[
+            p.running, p.mode, p.check, p.device, p.awaited, p.left, p.control,
+        ],
+    )?;
+    show::words(to, &[p.start, p.end, p.next])?;
+    show::longs(to, &[p.taken, p.mismatches])
 }
 
 // The place that the arguments spell from its first byte on, in the order in which it is printed.
@@ -86,10 +91,10 @@ pub fn zero() -> Board {
     }
 }
 
-fn lent(s: &[u8]) -> Chain {
+fn lent(to: &mut impl Write, s: &[u8]) -> io::Result<Chain> {
     let c = spelled(s);
-    state(c);
-    c
+    state(to, c)?;
+    Ok(c)
 }
 
 fn filled(letter: u8, n: usize) -> usize
@@ -118,57 +123,64 @@ pub fn burn(call: Call, e: &mut [u8], args: &[u8]) {
     }
 }
 
-fn made(m: Made) -> Chain {
+fn made(to: &mut impl Write, m: Made) -> io::Result<Chain> {
     let c = m.chain;
-    show::byte(m.number);
-    state(c);
-    c
+    show::byte(to, m.number)?;
+    state(to, c)?;
+    Ok(c)
 }
 
-fn fed(f: Fed) -> Chain {
+fn fed(to: &mut impl Write, f: Fed) -> io::Result<Chain> {
     let c = f.chain;
     let a = f.answer;
-    show::byte(a.number);
-    show::long(a.taken);
-    show::long(a.mismatches);
-    state(c);
-    c
+    show::byte(to, a.number)?;
+    show::long(to, a.taken)?;
+    show::long(to, a.mismatches)?;
+    state(to, c)?;
+    Ok(c)
 }
 
-fn fetcher(f: Fetcher) -> Fetcher {
+fn fetcher(to: &mut impl Write, f: Fetcher) -> io::Result<Fetcher> {
     let address = f.address;
-    show::long(f.counter);
-    show::byte(f.control);
-    show::group(&address);
-    show::byte(f.nulled);
-    f
+    show::long(to, f.counter)?;
+    show::byte(to, f.control)?;
+    show::group(to, &address)?;
+    show::byte(to, f.nulled)?;
+    Ok(f)
 }
 
-fn fetched(r: Fetched) -> Board {
+fn fetched(to: &mut impl Write, r: Fetched) -> io::Result<Board> {
     let c = r.chain;
     let a = r.answer;
     let f = r.fetcher;
-    show::byte(a.number);
-    show::long(a.taken);
-    show::long(a.mismatches);
-    state(c);
-    fetcher(f);
-    Board {
+    show::byte(to, a.number)?;
+    show::long(to, a.taken)?;
+    show::long(to, a.mismatches)?;
+    state(to, c)?;
+    fetcher(to, f)?;
+    Ok(Board {
         chain: c,
         fetcher: f,
-    }
+    })
 }
 
-fn length(n: usize) {
-    show::long((n % 4294967296) as u32);
+fn length(to: &mut impl Write, n: usize) -> io::Result<()> {
+    show::long(to, (n % 4294967296) as u32)
 }
 
-fn written(number: u8, n: usize) {
-    show::byte(number);
-    length(n);
+fn written(to: &mut impl Write, number: u8, n: usize) -> io::Result<()> {
+    show::byte(to, number)?;
+    length(to, n)
 }
 
-fn write(call: Call, args: &[u8], starts: &mut [u16], ends: &mut [u16], out: &mut [u8]) {
+fn write(
+    to: &mut impl Write,
+    call: Call,
+    args: &[u8],
+    starts: &mut [u16],
+    ends: &mut [u16],
+    out: &mut [u8],
+) -> io::Result<()> {
     let address = [at(args, 0), at(args, 1), at(args, 2)];
     let s = rest(args, 3);
     words(s, starts);
@@ -184,74 +196,94 @@ fn write(call: Call, args: &[u8], starts: &mut [u16], ends: &mut [u16], out: &mu
         rest(e, 2 * ends.len()),
         out,
     );
-    written(w.number, w.length);
+    written(to, w.number, w.length)
 }
 
-fn list(call: Call, s: &[u8], starts: &mut [u16], ends: &mut [u16], offsets: &mut [u32]) {
+fn list(
+    to: &mut impl Write,
+    call: Call,
+    s: &[u8],
+    starts: &mut [u16],
+    ends: &mut [u16],
+    offsets: &mut [u32],
+) -> io::Result<()> {
     let l = lister::list(call.a, call.b, s, starts, ends, offsets);
     let address = l.address;
-    show::byte(l.number);
-    show::byte(l.windows);
-    show::byte(l.control);
-    show::group(&address);
-    show::long(l.taken);
-    show::words(starts);
-    show::words(ends);
-    show::longs(offsets);
+    show::byte(to, l.number)?;
+    show::byte(to, l.windows)?;
+    show::byte(to, l.control)?;
+    show::group(to, &address)?;
+    show::long(to, l.taken)?;
+    show::words(to, starts)?;
+    show::words(to, ends)?;
+    show::longs(to, offsets)
 }
 
 // The calls on a state alone; any other letter leaves it.
-fn on_chain(call: Call, c: Chain, mem: &mut [u8], args: &[u8]) -> Chain {
+fn on_chain(
+    to: &mut impl Write,
+    call: Call,
+    c: Chain,
+    mem: &mut [u8],
+    args: &[u8],
+) -> io::Result<Chain> {
     let letter = call.letter;
     match letter {
-        b'=' => lent(args),
-        b'n' => made(chain::new(call.a, eight(args), mem)),
-        b'r' => made(chain::reset(c, mem)),
-        b's' => made(machine::start(c, mem, call.a, call.b)),
-        b'd' => made(machine::drop(c, mem)),
-        b'b' => fed(machine::byte(c, mem, call.a)),
-        b'f' => fed(machine::slice(c, mem, args)),
-        b'p' => made(saved::pick_up(c, mem, args)),
-        _ => c,
+        b'=' => lent(to, args),
+        b'n' => made(to, chain::new(call.a, eight(args), mem)),
+        b'r' => made(to, chain::reset(c, mem)),
+        b's' => made(to, machine::start(c, mem, call.a, call.b)),
+        b'd' => made(to, machine::drop(c, mem)),
+        b'b' => fed(to, machine::byte(c, mem, call.a)),
+        b'f' => fed(to, machine::slice(c, mem, args)),
+        b'p' => made(to, saved::pick_up(c, mem, args)),
+        _ => Ok(c),
     }
 }
 
 // The calls on a state or a fetcher, with as much of the EPROM as the call is lent; any other letter leaves both.
-pub fn on_board(call: Call, b: Board, mem: &mut [u8], e: &[u8], args: &[u8]) -> Board {
+pub fn on_board(
+    to: &mut impl Write,
+    call: Call,
+    b: Board,
+    mem: &mut [u8],
+    e: &[u8],
+    args: &[u8],
+) -> io::Result<Board> {
     let c = b.chain;
     let f = b.fetcher;
     let letter = call.letter;
     match letter {
         b'g' => {
-            let g = fetcher(spelled_fetcher(args));
-            Board {
+            let g = fetcher(to, spelled_fetcher(args))?;
+            Ok(Board {
                 chain: c,
                 fetcher: g,
-            }
+            })
         }
         b'i' => {
-            let g = fetcher(eprom::fetcher_new(call.a));
-            Board {
+            let g = fetcher(to, eprom::fetcher_new(call.a))?;
+            Ok(Board {
                 chain: c,
                 fetcher: g,
-            }
+            })
         }
         b'x' => {
             let k = least(call.out, e.len());
-            fetched(eprom::fetch(c, f, mem, &e[0..k], long(args) as usize))
+            fetched(to, eprom::fetch(c, f, mem, &e[0..k], long(args) as usize))
         }
         _ => {
-            let d = on_chain(call, c, mem, args);
-            Board {
+            let d = on_chain(to, call, c, mem, args)?;
+            Ok(Board {
                 chain: d,
                 fetcher: f,
-            }
+            })
         }
     }
 }
 
 // The calls with tables.
-fn on_tables(call: Call, args: &[u8], out: &mut [u8]) {
+fn on_tables(to: &mut impl Write, call: Call, args: &[u8], out: &mut [u8]) -> io::Result<()> {
     let mut starts = [WORD; 512];
     let mut ends = [WORD; 512];
     let mut offsets = [LONG; 512];
@@ -259,59 +291,61 @@ fn on_tables(call: Call, args: &[u8], out: &mut [u8]) {
     let j = least(call.ends, 512);
     let k = least(call.out, 512);
     if call.letter == b'w' {
-        write(call, args, &mut starts[0..i], &mut ends[0..j], out);
+        write(to, call, args, &mut starts[0..i], &mut ends[0..j], out)
     } else {
         list(
+            to,
             call,
             args,
             &mut starts[0..i],
             &mut ends[0..j],
             &mut offsets[0..k],
-        );
+        )
     }
 }
 
 // The calls with an output or tables, and text.
-pub fn on_output(call: Call, c: Chain, mem: &[u8], args: &[u8], out: &mut [u8]) {
+pub fn on_output(
+    to: &mut impl Write,
+    call: Call,
+    c: Chain,
+    mem: &[u8],
+    args: &[u8],
+    out: &mut [u8],
+) -> io::Result<()> {
     let letter = call.letter;
     match letter {
         b'c' => {
             let w = closing::closing(c, mem, out);
-            written(w.number, w.length);
+            written(to, w.number, w.length)
         }
         b'v' => {
             let w = saved::save(c, mem, out);
-            written(w.number, w.length);
+            written(to, w.number, w.length)
         }
         b'h' => {
             let h = hunt::hunt(args, out);
-            show::byte(h.number);
-            show::byte(h.p);
-            show::byte(h.left);
-            length(h.length);
+            show::byte(to, h.number)?;
+            show::byte(to, h.p)?;
+            show::byte(to, h.left)?;
+            length(to, h.length)
         }
         b't' => {
             let w = tidy::tidy(call.a, args, out);
-            written(w.number, w.length);
+            written(to, w.number, w.length)
         }
         b'k' => {
             let r = salvage::salvage(call.a, args, out);
-            show::byte(r.number);
-            show::byte(r.kept);
-            show::byte(r.announced);
-            show::byte(r.end);
-            length(r.offset);
-            length(r.length);
+            show::byte(to, r.number)?;
+            show::byte(to, r.kept)?;
+            show::byte(to, r.announced)?;
+            show::byte(to, r.end)?;
+            length(to, r.offset)?;
+            length(to, r.length)
         }
-        b'y' => {
-            sheets::load(call, args, out);
-        }
-        b'w' | b'l' => {
-            on_tables(call, args, out);
-        }
-        b'#' => {
-            show::text(args);
-        }
-        _ => {}
+        b'y' => sheets::load(to, call, args, out),
+        b'w' | b'l' => on_tables(to, call, args, out),
+        b'#' => show::text(to, args),
+        _ => Ok(()),
     }
 }

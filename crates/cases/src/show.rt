@@ -2,7 +2,8 @@
 ghost use Rattle.std.specs.Prelude.{◌≡◌, ◌<◌, ◌≤◌, length};
 
 use crate::script::least;
-use libc::STDOUT_FILENO;
+use std::io;
+use std::io::Write;
 
 fn digit(n: u8) -> u8 {
     let d = n % 16;
@@ -31,58 +32,64 @@ fn block(left: usize) -> usize
     if left < 32 { left } else { 32 }
 }
 
-pub fn hex(s: &[u8]) {
+pub fn hex(to: &mut impl Write, s: &[u8]) -> io::Result<()> {
     let mut i: usize = 0;
     while i < s.len() {
         let n = block(s.len() - i);
         let text = digits(&s[i..i + n]);
-        io::write_all(STDOUT_FILENO, &text[0..2 * n]);
+        to.write_all(&text[0..2 * n])?;
         i += n;
     }
+    Ok(())
 }
 
-pub fn text(s: &[u8]) {
-    io::write_all(STDOUT_FILENO, s);
+pub fn text(to: &mut impl Write, s: &[u8]) -> io::Result<()> {
+    to.write_all(s)
 }
 
 // Bytes that stand apart from what is before them.
-pub fn group(s: &[u8]) {
-    text(b" ");
-    hex(s);
+pub fn group(to: &mut impl Write, s: &[u8]) -> io::Result<()> {
+    text(to, b" ")?;
+    hex(to, s)
 }
 
-pub fn byte(n: u8) {
-    group(&[n]);
+pub fn byte(to: &mut impl Write, n: u8) -> io::Result<()> {
+    group(to, &[n])
 }
 
-pub fn long(n: u32) {
-    group(&[
-        (n / 16777216) as u8,
-        (n / 65536 % 256) as u8,
-        (n / 256 % 256) as u8,
-        (n % 256) as u8,
-    ]);
+pub fn long(to: &mut impl Write, n: u32) -> io::Result<()> {
+    group(
+        to,
+        &[
+            (n / 16777216) as u8,
+            (n / 65536 % 256) as u8,
+            (n / 256 % 256) as u8,
+            (n % 256) as u8,
+        ],
+    )
 }
 
-fn word(n: u16) {
-    hex(&[(n / 256) as u8, (n % 256) as u8]);
+fn word(to: &mut impl Write, n: u16) -> io::Result<()> {
+    hex(to, &[(n / 256) as u8, (n % 256) as u8])
 }
 
-pub fn words(table: &[u16]) {
-    text(b" ");
+pub fn words(to: &mut impl Write, table: &[u16]) -> io::Result<()> {
+    text(to, b" ")?;
     let mut i: usize = 0;
     while i < table.len() {
-        word(table[i]);
+        word(to, table[i])?;
         i += 1;
     }
+    Ok(())
 }
 
-pub fn longs(table: &[u32]) {
+pub fn longs(to: &mut impl Write, table: &[u32]) -> io::Result<()> {
     let mut i: usize = 0;
     while i < table.len() {
-        long(table[i]);
+        long(to, table[i])?;
         i += 1;
     }
+    Ok(())
 }
 
 // The row of six from an entry on is the one above it, once more.
@@ -111,27 +118,31 @@ fn six(left: usize) -> usize
 }
 
 // A row behind the number of its first entry.
-fn row(i: usize, entries: &[u32]) {
-    text(b" +");
-    hex(&[
-        (i / 65536 % 256) as u8,
-        (i / 256 % 256) as u8,
-        (i % 256) as u8,
-    ]);
-    text(b":");
-    longs(entries);
+fn row(to: &mut impl Write, i: usize, entries: &[u32]) -> io::Result<()> {
+    text(to, b" +")?;
+    hex(
+        to,
+        &[
+            (i / 65536 % 256) as u8,
+            (i / 256 % 256) as u8,
+            (i % 256) as u8,
+        ],
+    )?;
+    text(to, b":")?;
+    longs(to, entries)
 }
 
 // Rows of six; one that repeats the row above it is left out.
-pub fn rows(table: &[u32]) {
+pub fn rows(to: &mut impl Write, table: &[u32]) -> io::Result<()> {
     let mut i: usize = 0;
     while i < table.len() {
         let end = i + six(table.len() - i);
         if !repeats(table, i) {
-            row(i, &table[i..end]);
+            row(to, i, &table[i..end])?;
         }
         i = end;
     }
+    Ok(())
 }
 
 // Where the run of changed bytes ends that begins at from.
@@ -150,12 +161,12 @@ fn run_end(bytes: &[u8], old: &[u8], from: usize) -> usize
 }
 
 // Each run of bytes that differ from the old ones, with the address of its first; mark says of what block.
-pub fn changes(mark: u8, bytes: &[u8], old: &[u8]) {
+pub fn changes(to: &mut impl Write, mark: u8, bytes: &[u8], old: &[u8]) -> io::Result<()> {
     let n = least(bytes.len(), old.len());
-    runs(mark, &bytes[0..n], &old[0..n]);
+    runs(to, mark, &bytes[0..n], &old[0..n])
 }
 
-fn runs(mark: u8, bytes: &[u8], old: &[u8])
+fn runs(to: &mut impl Write, mark: u8, bytes: &[u8], old: &[u8]) -> io::Result<()>
     requires { length bytes.now ≤ length old.now }
 {
     let mut i: usize = 0;
@@ -164,15 +175,19 @@ fn runs(mark: u8, bytes: &[u8], old: &[u8])
             i += 1;
         } else {
             let end = run_end(bytes, old, i);
-            text(&[32, mark]);
-            hex(&[
-                (i / 65536 % 256) as u8,
-                (i / 256 % 256) as u8,
-                (i % 256) as u8,
-            ]);
-            text(b":");
-            hex(&bytes[i..end]);
+            text(to, &[32, mark])?;
+            hex(
+                to,
+                &[
+                    (i / 65536 % 256) as u8,
+                    (i / 256 % 256) as u8,
+                    (i % 256) as u8,
+                ],
+            )?;
+            text(to, b":")?;
+            hex(to, &bytes[i..end])?;
             i = end;
         }
     }
+    Ok(())
 }
