@@ -1,11 +1,12 @@
 // The text that the program writes for an input.
 ghost use Rattle.std.specs.Prelude.{◌≡◌, true, [], ◌∷◌, ◌+◌, ◌*◌, ◌≤◌, ◌<◌, length, take};
-ghost use Rattle.io.specs.Counts.{IsPrefixLen};
+ghost use Rattle.std.specs.Counts.{IsPrefixLen};
 ghost use Rattle.listing.specs.Lines.{letter_W, space, decimal_of, numbers_of, line_of, Puts};
 ghost use Rattle.chain.specs.Paper.{serial};
 ghost use Rattle.listing.specs.Program.{window_lines, most_input, most_text, program_lines, Writes};
 ghost use Rattle.listing.specs.ListedTo.{ListedTo};
 
+use crate::decimal::{MOST_DIGITS, decimal};
 use cells::copy;
 use chain::kinds::size_of;
 use chain::paper::*;
@@ -34,11 +35,11 @@ fn number(n: u32, at: usize, out: &mut [u8]) -> usize
     requires { at + 1 + length (decimal_of n) ≤ length out.old }
     ensures { Puts at (space ∷ decimal_of n) out.old result out.new }
 {
-    let mut digits = [0u8; 20];
-    let k = io::decimal(n as u64, &mut digits);
+    let mut digits = [0u8; MOST_DIGITS];
+    let k = decimal(n, &mut digits);
     let from = put(b' ', at, out);
-    copy(&mut out[from..], &digits[..k]);
-    from + k
+    copy(&mut out[from..], &digits[k..]);
+    from + (MOST_DIGITS - k)
 }
 
 // The rest of a line: numbers, and a line feed.
