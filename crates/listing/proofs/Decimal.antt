@@ -1,67 +1,54 @@
 -- The decimal digits that are written are those of the definition, how many there are, and how long a line is. Assumes nothing.
-use Prim.Native.Nat.{ℕ, zero, suc, ◌-◌, ◌/◌, ◌%◌, ◌^◌, ◌≤◌, ◌<◌}
-use mathlib.Core.Bool.{true}
-use mathlib.Core.Path.{◌≡◌, refl}
-use mathlib.Core.List.{[], ◌∷◌}
-use borrow.Author.Tests.{ltb-true, ltb-false, lt-ltb}
-use native.Mathlib.Omega.{arith}
-use native.Mathlib.Nat.{pow-zero, pow-suc, one-le-pow, le-div_iff_mul-le, div-lt_iff_lt-mul}
-use lib.Dec.{ltb, lit<}
-use lib.ListN.{length, length-append}
-use Rattle.io.specs.Digits.{last_digits, IsDigitCount}
+use Rattle.std.proofs.Common.{ℕ, zero, suc, ◌+◌, ◌-◌, ◌/◌, ◌%◌, ◌^◌, ◌≤◌, ◌<◌, true, ◌≡◌, refl, ap, ◌∙◌, List, [], ◌∷◌, ◌++◌, append_assoc, add-one, ltb, lit<, length, drop, set, length-append, arith}
+use Rattle.std.proofs.Math.Nat.{pow-zero, pow-suc, div-lt_iff_lt-mul}
+use Rattle.std.proofs.lemmas.List.{drop-set}
+use borrow.Author.Tests.{ltb-true, ltb-false, lt-ltb, le-ltb}
 use Rattle.chain.proofs.ByCases.{by_test}
-use Rattle.listing.specs.Lines.{letter_W, digits_within, decimal_of, numbers_of, line_of}
+use Rattle.listing.specs.Lines.{letter_W, digit_0, digits_within, decimal_of, numbers_of, line_of}
 use Rattle.listing.specs.Program.{answer_line}
 
--- the fewest digits of a number below ten are one, and of any other one more than those of its tenth
-one_digit : (n j : ℕ) → n < 10 → IsDigitCount 10 1 n (suc j) → j ≡ 0
-one_digit n zero h f = refl
-one_digit n (suc j) h f =
-    let e : suc (suc j) - 1 ≡ suc j = omega arith in
-    let big : 10 ^ suc j ≤ n = rw e at (f.2 (omega arith)) in
-    absurd (omega (arith, pow-suc 10 j, one-le-pow j 10 (lit< tt)))
-
-tenth : (n j : ℕ) → 10 ≤ n → IsDigitCount 10 1 n (suc j) → IsDigitCount 10 1 (n / 10) j
-tenth n zero h f = absurd (omega (arith, f.1, pow-suc 10 0, pow-zero 10))
-tenth n (suc k) h f =
-    let e : suc (suc k) - 1 ≡ suc k = omega arith in
-    let z : suc k - 1 ≡ k = omega arith in
-    let big : 10 ^ suc k ≤ n = rw e at (f.2 (omega arith)) in (
-      omega arith,
-      (div-lt_iff_lt-mul {k = 10} {x = n} {y = 10 ^ suc k} (lit< tt)).1 (rw pow-suc at f.1),
-      λ q. (le-div_iff_mul-le {k = 10} {x = 10 ^ (suc k - 1)} {y = n} (lit< tt)).1 (rw (z, ← pow-suc 10 k) big),
-    )
-
--- a digit below ten is written as itself
-last_digit : (n : ℕ) → ltb (n % 10) 10 ≡ true
-last_digit n = lt-ltb (n % 10) 10 (omega arith)
-
-digits_within_lem : (most n k : ℕ) → k ≤ most → IsDigitCount 10 1 n k → last_digits 10 k n ≡ digits_within most n
+-- how many digits there may be makes no difference, where there are enough
+enough : (a b n : ℕ) → n < a → n < b → digits_within a n ≡ digits_within b n
 unfolding digits_within
-digits_within_lem most n zero h f = absurd (omega (arith, f.0))
-digits_within_lem zero n (suc j) h f = absurd (omega arith)
-digits_within_lem (suc most) n (suc j) h f =
+enough zero b n h k = absurd (omega arith)
+enough (suc a) zero n h k = absurd (omega arith)
+enough (suc a) (suc b) n h k =
     by_test (ltb n 10)
-    (λ e. let z = one_digit n j (ltb-true n 10 e) f in
-    rw (e, z, last_digit n))
-    (λ e. let r = digits_within_lem most (n / 10) j (omega arith) (tenth n j (ltb-false n 10 e) f) in
-    rw (e, r, last_digit n))
+    (λ e. rw e refl)
+    (λ e. let r = enough a b (n / 10) (omega (arith, ltb-false n 10 e)) (omega (arith, ltb-false n 10 e)) in rw (e, r) refl)
 
-below_pow : (k : ℕ) → k < 10 ^ k
-below_pow zero = omega (arith, pow-zero 10)
-below_pow (suc k) = omega (arith, pow-suc 10 k, below_pow k)
+-- a number below ten is its own digit, and any other one ends with its last digit
+pub one_digit : (n : ℕ) → n < 10 → decimal_of n ≡ (digit_0 + n) ∷ []
+unfolding decimal_of digits_within
+one_digit n h =
+    let e : n % 10 ≡ n = omega arith in
+    rw (lt-ltb n 10 h, e) refl
 
-enough : (n k : ℕ) → IsDigitCount 10 1 n k → k ≤ suc n
-enough n zero f = omega arith
-enough n (suc zero) f = omega arith
-enough n (suc (suc j)) f =
-    let e : suc (suc j) - 1 ≡ suc j = omega arith in
-    let big : 10 ^ suc j ≤ n = rw e at (f.2 (omega arith)) in
-    omega (arith, below_pow (suc j))
+pub last_digit : (n : ℕ) → 10 ≤ n → decimal_of n ≡ decimal_of (n / 10) ++ (digit_0 + n % 10) ∷ []
+unfolding decimal_of digits_within
+last_digit n h =
+    let e = enough n (suc (n / 10)) (n / 10) (omega arith) (omega arith) in
+    rw (le-ltb n 10 h) (ap (λ (l : List ℕ). l ++ (digit_0 + n % 10) ∷ []) e)
 
-pub decimal_is : (n k : ℕ) → IsDigitCount 10 1 n k → last_digits 10 k n ≡ decimal_of n
-unfolding decimal_of
-decimal_is n k f = digits_within_lem (suc n) n k (enough n k f) f
+-- a turn of the loop that writes them, from the last place down, and its end
+pub digit_written : (n at below : ℕ) (digits : List ℕ) → 10 ≤ n → below ≡ at → at < length digits
+    → decimal_of (n / 10) ++ drop below (set digits at (digit_0 + n % 10)) ≡ decimal_of n ++ drop (at + 1) digits
+digit_written n at below digits h e k =
+    ap (λ (j : ℕ). decimal_of (n / 10) ++ drop j (set digits at (digit_0 + n % 10))) e
+    ∙ ap (λ (l : List ℕ). decimal_of (n / 10) ++ l) (drop-set digits at (digit_0 + n % 10) k)
+    ∙ rw (last_digit n h, append_assoc) refl
+
+pub first_written : (n at : ℕ) (digits : List ℕ) → n < 10 → at < length digits
+    → drop at (set digits at (digit_0 + n)) ≡ decimal_of n ++ drop (at + 1) digits
+first_written n at digits h k = drop-set digits at (digit_0 + n) k ∙ rw (one_digit n h) refl
+
+-- a place is left for every digit
+pub place_left : (n at : ℕ) → 10 ≤ n → n < 10 ^ (at + 1) → 0 < at
+place_left n zero h k = absurd (omega (arith, pow-suc 10 0, pow-zero 10))
+place_left n (suc at) h k = omega arith
+
+pub fewer_left : (n at : ℕ) → n < 10 ^ (at + 1) → n / 10 < 10 ^ at
+fewer_left n at h = (div-lt_iff_lt-mul {k = 10} {x = n} {y = 10 ^ at} (lit< tt)).1 (rw (add-one, pow-suc) at h)
 
 -- at most k + 1 digits below 10 ^ (k + 1)
 within-short : (most k n : ℕ) → n < 10 ^ suc k → length (digits_within most n) ≤ suc k

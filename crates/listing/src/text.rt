@@ -6,7 +6,7 @@ ghost use Rattle.chain.specs.Paper.{serial};
 ghost use Rattle.listing.specs.Program.{window_lines, most_input, most_text, program_lines, Writes};
 ghost use Rattle.listing.specs.ListedTo.{ListedTo};
 
-use crate::decimal::{MOST_DIGITS, decimal};
+use crate::digits::{MOST_DIGITS, decimal};
 use cells::copy;
 use chain::kinds::size_of;
 use chain::paper::*;
