@@ -1,8 +1,8 @@
 -- The decimal digits that are written are those of the definition, how many there are, and how long a line is. Assumes nothing.
-use Rattle.std.proofs.Common.{ℕ, zero, suc, ◌+◌, ◌-◌, ◌/◌, ◌%◌, ◌^◌, ◌≤◌, ◌<◌, true, ◌≡◌, refl, ap, ◌∙◌, List, [], ◌∷◌, ◌++◌, append_assoc, add-one, ltb, lit<, length, drop, set, length-append, arith}
+use Rattle.std.proofs.Common.{ℕ, zero, suc, ◌+◌, ◌/◌, ◌%◌, ◌^◌, ◌≤◌, ◌<◌, ◌≡◌, refl, ap, ◌∙◌, List, [], ◌∷◌, ◌++◌, append_assoc, add-one, ltb, lit<, length, drop, set, length-append, arith}
 use Rattle.std.proofs.Math.Nat.{pow-zero, pow-suc, div-lt_iff_lt-mul}
 use Rattle.std.proofs.lemmas.List.{drop-set}
-use borrow.Author.Tests.{ltb-true, ltb-false, lt-ltb, le-ltb}
+use borrow.Author.Tests.{ltb-false, lt-ltb, le-ltb}
 use Rattle.chain.proofs.ByCases.{by_test}
 use Rattle.listing.specs.Lines.{letter_W, digit_0, digits_within, decimal_of, numbers_of, line_of}
 use Rattle.listing.specs.Program.{answer_line}

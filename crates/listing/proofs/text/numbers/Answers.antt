@@ -1,4 +1,4 @@
-use Rattle.std.proofs.Common.{ℕ, suc, ◌+◌, ◌≡◌, ap, ◌∷◌, length, get_or, add-one, arith}
+use Rattle.std.proofs.Common.{◌≡◌, ap, ◌∷◌, length, get_or, add-one, arith}
 use Rattle.listing.specs.Lines.{space, decimal_of}
 use Rattle.listing.proofs.Putting.{puts_then, puts_long, numbers_more, numbers_long, numbers_done}
 use Rattle.listing.proofs.text.numbers.Goals as goal
