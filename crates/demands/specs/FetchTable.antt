@@ -19,7 +19,7 @@ use Rattle.demands.specs.ByteTable.{Awaits, byte_claims, claims_of}
 abbrev pub lent_table : Chain → Fetcher → List ℕ → List Claim → List Claim
 lent_table c f m claims =
     (bad_chain when BadChain c.count c.kinds (length m))
-    ∷ (ill_formed when IllFormed c ⊎ (last_count < f.counter))
+    ∷ (ill_formed when (IllFormed c ⊎ (last_count < f.counter)))
     ∷ (no_run when c.place.running ≡ closed)
     ∷ claims
 

@@ -28,7 +28,7 @@ sheet_table kind mode s lengths numbers figures =
     (bad_lengths when BadLengths s lengths)
     ∷ (bad_chain when (Known kind → ⊥))
     ∷ (bad_mode when NoMode mode)
-    ∷ (too_short when (length numbers < length lengths) ⊎ (length figures < figures_a_row * length lengths))
+    ∷ (too_short when ((length numbers < length lengths) ⊎ (length figures < figures_a_row * length lengths)))
     ∷ []
 
 abbrev pub SheetNumbers : Loader → Type 0

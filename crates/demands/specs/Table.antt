@@ -77,7 +77,7 @@ abbrev pub write_table : ℕ → ℕ → ℕ → List ℕ → List ℕ → List 
 write_table kind mode control address starts ends bytes out =
     (bad_chain when (Known kind → ⊥))
     ∷ (bad_mode when NoMode mode)
-    ∷ (bad_tables when (length starts ≢ length ends) ⊎ (most_windows < length starts))
+    ∷ (bad_tables when ((length starts ≢ length ends) ⊎ (most_windows < length starts)))
     ∷ (bad_start when FirstStart (size_of kind) starts ends)
     ∷ (bad_end when FirstEnd (size_of kind) starts ends)
     ∷ (bad_data when length bytes ≢ sum_of starts ends)

@@ -68,7 +68,7 @@ module _ (c : Chain) (m s : List ℕ) where
   abbrev claims : List Claim
   claims =
       (bad_chain when Bad)
-      ∷ (ill_formed when IllFormed c ⊎ ((c.place.running ≢ opened) × (WellSaved c s → ⊥)))
+      ∷ (ill_formed when (IllFormed c ⊎ ((c.place.running ≢ opened) × (WellSaved c s → ⊥))))
       ∷ (run_open when c.place.running ≡ opened)
       ∷ []
 
