@@ -33,10 +33,10 @@ use Rattle.reader.specs.Stream.{preamble_at, count_at, stream_stop}
 use Rattle.lister.specs.Listing.{any_shorter, list_stop, listed_of, listing_of, listed, Lists}
 use Rattle.reader.proofs.AsMachine.{stream_as_machine}
 use Rattle.chain.specs.Bytes.{Bytes}
-use Rattle.chain.specs.WellFormed.{Among, Between}
+use Rattle.chain.specs.WellFormed.{Among}
 use Rattle.chain.specs.Table.{Table}
 use Rattle.chain.proofs.BadChain.{m_known, m_unknown}
-use Rattle.chain.proofs.Means.{Means, m-none, said, reads}
+use Rattle.chain.proofs.Means.{said, reads}
 use Rattle.chain.proofs.Table.{table, table-reads}
 use Rattle.demands.specs.ByteTable.{slice_number}
 use Rattle.demands.specs.ListTable.{fresh_run, own_number, own_taken, list_table, ListTaken}

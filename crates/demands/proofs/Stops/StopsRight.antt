@@ -1,6 +1,6 @@
 -- Every stop of a stream that loads whole is as the third demand says, however the bytes up to it are cut: its cells and registers, its
 -- closing bytes, and the same stream started afresh. Assumes nothing.
-use Prim.Native.Nat.{ℕ, ◌+◌, ◌<◌, ◌≤◌, ◌^◌}
+use Prim.Native.Nat.{ℕ, ◌<◌, ◌≤◌, ◌^◌}
 use mathlib.Core.Path.{◌≡◌, refl, ap, sym, subst, ◌∙◌}
 use mathlib.Core.List.{List, ◌++◌}
 use native.Mathlib.Omega.{arith}
@@ -18,7 +18,6 @@ use Rattle.machine.specs.Calls.{answered, fed_of}
 use Rattle.grammar.proofs.Runs.Keeps.{run_open}
 use Rattle.machine.proofs.Runs.{run_lasts}
 use Rattle.closing.specs.Closing.{closing_bytes}
-use Rattle.closing.proofs.Closes.{closes}
 use Rattle.grammar.specs.Fits.{Reading, meant, Clear}
 use Rattle.grammar.specs.Stores.{walk_of}
 use Rattle.grammar.proofs.Walk.{walk_take}

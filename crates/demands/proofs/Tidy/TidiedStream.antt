@@ -20,7 +20,6 @@ use Rattle.reader.specs.Stream.{stream_stop}
 use Rattle.grammar.specs.Sent.{memory, bytes_of}
 use Rattle.grammar.specs.Stream.{Window, Section, stream_sent}
 use Rattle.grammar.specs.Fits.{SectionFits, SectionsFit}
-use Rattle.grammar.specs.Tables.{cells}
 use Rattle.grammar.proofs.WindowCells.{last_small, stream-cells}
 use Rattle.tidy.specs.Spans.{Span, covered}
 use Rattle.tidy.specs.Steps.{Spaced}
