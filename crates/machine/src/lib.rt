@@ -145,7 +145,9 @@ pub fn byte(c: Chain, mem: &mut [u8], b: u8) -> Fed
     not_fed(c, n)
 }
 
-// For calls above the machine: ends an open run with a number of theirs. Its last byte counts as taken; no cell and no register changes.
+// For calls above the machine: ends an open run with a number of theirs. Its last byte counts as taken; no cell and no register changes. Seldom, so a function
+// of its own: its room is then no part of its caller's.
+#[inline(never)]
 pub fn refuse(c: Chain, n: u8) -> Fed
     ensures { result ≡ refuse_of c n }
 {

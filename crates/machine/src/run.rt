@@ -33,6 +33,7 @@ fn address(c: Chain) -> usize
 }
 
 // 1 where a check's data byte differs from its cell.
+#[inline(always)]
 fn missed(c: Chain, mem: &[u8], b: u8) -> u32
     ensures { result ≡ missed_of c mem.now b }
 {
@@ -90,7 +91,8 @@ pub fn over(c: Chain) -> Chain
     d
 }
 
-// The run goes on after the byte b, with k mismatches more.
+// The run goes on after the byte b, with k mismatches more. In line wherever it is called, as `number` is.
+#[inline(always)]
 pub fn gone_on(c: Chain, k: u32, b: u8) -> Chain
     ensures { result ≡ gone_on c k b }
 {
@@ -297,6 +299,7 @@ pub fn feed(c: Chain, mem: &mut [u8], s: &[u8]) -> Made
 }
 
 // The answer; a run that is over leaves no place.
+#[inline(always)]
 pub fn finish(r: Made) -> Fed
     ensures { result ≡ fed_of (run r.chain [] r.number) }
 {
