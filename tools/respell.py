@@ -33,6 +33,9 @@ HAND = {
     "other-order": "in_other_order",
     "goes_on": "keeps_going",
     "closed-place": "is_closed",
+    "getD-any": "get_or-put_any",
+    "getD-put": "get_or-put",
+    "getD-putAll": "get_or-put_all",
     "byRow": "formed_by_row",
     "fromOne": "counts_from_one",
 }

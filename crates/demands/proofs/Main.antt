@@ -93,8 +93,8 @@ every_input = demand1
 -- it. 'A stream written from a window list loads, where B4 was clear before, as those windows, later over earlier, and lists as the same
 -- windows' (b); 'an accepted one-device stream, listed and written again, gives its own bytes up to its postamble, lead-in and null bytes
 -- apart' (c)
-pub loads_and-checks : Demand2 ours
-loads_and-checks = demand2
+pub loads_and_checks : Demand2 ours
+loads_and_checks = demand2
 
 -- 3. 'Take a stream that would load whole as a write into this chain and ends at its postamble, with bit B4 clear in every control byte. Stop
 -- it after any number of bytes short of its end. Every cell that no data byte has reached holds its old value, every other the last byte sent
@@ -104,9 +104,9 @@ pub every_stop : Demand3 ours
 every_stop = demand3
 
 -- on a serial board the stop may come at any raw byte: what is hunted of a front part is a front part of what is hunted, or nothing
-pub serial-stop : (s : List ℕ) (k : ℕ) → k ≤ length s
+pub serial_stop : (s : List ℕ) (k : ℕ) → k ≤ length s
     → (found_at (take k s) ≡ nowhere) ⊎ (hunted_bytes (take k s) ≡ take (length (hunted_bytes (take k s))) (hunted_bytes s))
-serial-stop s k l = hunt_cut s k l
+serial_stop s k l = hunt_cut s k l
 
 -- Document 02, wish 4: 'The hunt shall also answer p and the number of bits left after the last whole byte, both 0 on a refusal.'
 pub preamble_began : SaysWhere ours
@@ -118,8 +118,8 @@ began_once = where_only
 
 -- Document 02, wish 5: 'From now on a check stores the control byte too, after the test for 7.' What a check of any bytes leaves, in any cut,
 -- ended or not. CheckBars has one whose B4 bars the next run
-pub check-leaves : Demand2f ours
-check-leaves = demand2.f
+pub check_leaves : Demand2f ours
+check_leaves = demand2.f
 
 -- Document 02, wish 8: 'For the byte at 11, send 00 when h equals the start's high byte and the start's low byte is not zero: the end is then below
 -- start. In a check at 2, send 08 alone: number 7 ends it.' AmendedPlaces has each row at 11 by computation
@@ -166,8 +166,8 @@ our_patches = (
 )
 
 -- Document 02, wish 2: 'Add a tidier for accepted one-device streams in mode 1', which are those that one device loads whole,
-pub all-accepted : (l : Loader) → Demand2a l → Demand2e l → AcceptedExactly l
-all-accepted = accepted_exactly
+pub all_accepted : (l : Loader) → Demand2a l → Demand2e l → AcceptedExactly l
+all_accepted = accepted_exactly
 
 -- and whatever is tidied begins with one. The numbers, 'the lister's, then 15', are in the first demand
 pub only_accepted : (l : Loader) → KeepsTidy l → TidiesOnly l
@@ -176,16 +176,16 @@ only_accepted = tidies_only
 -- 'Out come the windows ascending, disjoint, never touching, each cell with its last value, null bytes zero, control and external address kept.' The last
 -- values are those that the stream leaves: both load alike, on every memory. 'And more windows than given are never needed'; an output as long as the
 -- stream has room. Of every loader whose tidier keeps its promise and that meets clause (a)
-pub stream-tidied : (l : Loader) → Demand2a l → KeepsTidy l → TidiesAll l
-stream-tidied = tidies_all
+pub stream_tidied : (l : Loader) → Demand2a l → KeepsTidy l → TidiesAll l
+stream_tidied = tidies_all
 
 -- and that leaves a tidier no other bytes. From here on of every loader that meets clause (a) and tidies so, whatever its tidier promises
-pub no_other-bytes : (l : Loader) → Demand2a l → TidiesAll l → OnlyTidied l
-no_other-bytes = only_tidied
+pub no_other_bytes : (l : Loader) → Demand2a l → TidiesAll l → OnlyTidied l
+no_other_bytes = only_tidied
 
 -- 'Two streams tidy to equal bytes exactly when they agree in control byte, external address and their effect on every memory of that kind.'
-pub one_meaning_one-file : (l : Loader) → Demand2a l → TidiesAll l → OneFile l
-one_meaning_one-file = one-file_each
+pub one_meaning_one_file : (l : Loader) → Demand2a l → TidiesAll l → OneFile l
+one_meaning_one_file = one-file_each
 
 -- 'Tidying twice changes nothing'
 pub tidied_twice : (l : Loader) → Demand2a l → TidiesAll l → Twice l
@@ -194,13 +194,13 @@ tidied_twice = twice
 -- so it is of ours; ThreeFiles has files of one meaning and of two, by computation
 pub our_tidier : KeepsTidy ours × AcceptedExactly ours × TidiesOnly ours × TidiesAll ours × OnlyTidied ours × OneFile ours × Twice ours
 our_tidier =
-    let tidies = stream-tidied ours demand2.a tidy_kept in (
+    let tidies = stream_tidied ours demand2.a tidy_kept in (
       tidy_kept,
-      all-accepted ours demand2.a demand2.e,
+      all_accepted ours demand2.a demand2.e,
       only_accepted ours tidy_kept,
       tidies,
-      no_other-bytes ours demand2.a tidies,
-      one_meaning_one-file ours demand2.a tidies,
+      no_other_bytes ours demand2.a tidies,
+      one_meaning_one_file ours demand2.a tidies,
       tidied_twice ours demand2.a tidies,
     )
 
@@ -211,8 +211,8 @@ six_in_order = in_order_exactly
 
 -- 'Write a sound stream with the right count and 4D': the given bytes up to the told offset with that count and 4D are an accepted stream, and its bytes are
 -- written, null bytes zeroed
-pub stream-mended : (l : Loader) → KeepsSalvage l → AsMended l
-stream-mended = as_mended
+pub stream_mended : (l : Loader) → KeepsSalvage l → AsMended l
+stream_mended = as_mended
 
 -- 'keep the whole windows before the first refused byte or the end': what is salvaged leaves the cells and registers that the stream itself had left up to the
 -- byte after the last of them. From here on with clause (a)
@@ -236,12 +236,12 @@ pub one_stream_only : (l : Loader) → OneStream l
 one_stream_only = one_stream
 
 -- 'An accepted stream comes out the same up to its postamble, null bytes zeroed.' With clause (c) it is what the writer writes from its listing
-pub same-stream : (l : Loader) → Demand2a l → Demand2c l → KeepsSalvage l → SameComesOut l
-same-stream = same_comes_out
+pub same_stream : (l : Loader) → Demand2a l → Demand2c l → KeepsSalvage l → SameComesOut l
+same_stream = same_comes_out
 
 -- and where the list says end 0, the stream begins with an accepted one
-pub accepted-at_end : (l : Loader) → KeepsSalvage l → EndsAccepted l
-accepted-at_end = ends-accepted
+pub accepted_at_end : (l : Loader) → KeepsSalvage l → EndsAccepted l
+accepted_at_end = ends-accepted
 
 -- so it is of ours; BrokenStreams has streams that broke off, were refused and were accepted, by computation
 pub our_salvage : KeepsSalvage ours × InOrderExactly ours × AsMended ours × AsFarAsWhole ours × SoundAlways ours × MachineGives ours × OneList ours
@@ -249,14 +249,14 @@ pub our_salvage : KeepsSalvage ours × InOrderExactly ours × AsMended ours × A
 our_salvage = (
   salvage_kept,
   six_in_order ours salvage_kept,
-  stream-mended ours salvage_kept,
+  stream_mended ours salvage_kept,
   as_far_as_kept ours demand2.a salvage_kept,
   stream_sound ours demand2.a salvage_kept,
   list_as_machine,
   one_change_list ours,
   one_stream_only ours,
-  same-stream ours demand2.a demand2.c salvage_kept,
-  accepted-at_end ours salvage_kept,
+  same_stream ours demand2.a demand2.c salvage_kept,
+  accepted_at_end ours salvage_kept,
 )
 
 -- Document 02, wish 1: 'A fetcher's 17-bit counter starts at 00000 (1FFFF in mode 2) and steps up by one each byte (down in mode 2), wrapping past either end.
@@ -291,8 +291,8 @@ goes_on_past = every_goes_on
 
 -- 'Where demand 3 is read of a fetched stream, the fresh start is lent the counter that the stopped run began with.' Memories, registers and fetcher are then
 -- those of the unbroken fetch
-pub every_stop-fetched : (l : Loader) → KeepsCalls l → BootsHold l
-every_stop-fetched = every_boots
+pub every_stop_fetched : (l : Loader) → KeepsCalls l → BootsHold l
+every_stop_fetched = every_boots
 
 -- 'Beside the saved place a stop keeps the counter, that device's control and address bytes (zero until taken) and whether its first null was taken.' This, and
 -- where the counter goes and what a run's end does to it, read off the run's bytes alone
@@ -317,7 +317,7 @@ our_boards = (
   fed_with_its_bytes ours calls_kept,
   run_in_parts ours calls_kept,
   goes_on_past ours calls_kept,
-  every_stop-fetched ours calls_kept,
+  every_stop_fetched ours calls_kept,
   counter_as_bytes_say ours calls_kept,
   held_streams_boot ours calls_kept,
   (seventeen_bits ours calls_kept).0,
@@ -341,20 +341,20 @@ pub rows_by_hand : (l : Loader) → KeepsHand l → Alone l
 rows_by_hand = every_alone
 
 -- and rows so given, with the sums of their columns, leave no other sheet beside the same calls
-pub one-by_hand : (l : Loader) → Alone l → SheetLeaves l → OneSheet l
-one-by_hand l a h = one_sheet l a (columns_of l h)
+pub one_by_hand : (l : Loader) → Alone l → SheetLeaves l → OneSheet l
+one_by_hand l a h = one_sheet l a (columns_of l h)
 
 -- 'distinct cells': as many as a list that names each of them once
-pub distinct-cells : (size k : ℕ) (ps : List Put) (xs : List ℕ) → Inside size ps → 1 ≤ k → Names k ps xs → cells_stored size k ps ≡ length xs
-distinct-cells = distinct
+pub distinct_cells : (size k : ℕ) (ps : List Put) (xs : List ℕ) → Inside size ps → 1 ≤ k → Names k ps xs → cells_stored size k ps ≡ length xs
+distinct_cells = distinct
 
 -- 'exact': nothing passes 32 bits
 pub exact_totals : (l : Loader) → KeepsSheet l → Within32 l
 exact_totals = within_32
 
 -- and the figures of a row fit each other
-pub figures_of-a_row : (l : Loader) → KeepsSheet l → FiguresAmong l
-figures_of-a_row = figures_among
+pub figures_of_a_row : (l : Loader) → KeepsSheet l → FiguresAmong l
+figures_of_a_row = figures_among
 
 -- so it is of ours; OneMonth and SerialMonth have sheets with streams that were cut, refused, barred, empty or not found, by computation, and MonthsByHand
 -- has them loaded by hand
@@ -364,9 +364,9 @@ our_sheet = (
   (each_stream ours sheet_kept).0,
   (each_stream ours sheet_kept).1,
   rows_by_hand ours hand_kept,
-  one-by_hand ours (rows_by_hand ours hand_kept) (each_stream ours sheet_kept).1,
+  one_by_hand ours (rows_by_hand ours hand_kept) (each_stream ours sheet_kept).1,
   exact_totals ours sheet_kept,
-  figures_of-a_row ours sheet_kept,
+  figures_of_a_row ours sheet_kept,
 )
 
 -- The twelve cases of the paper, one table
@@ -375,15 +375,15 @@ twelve_cases = twelve
 
 -- Shut out of any loader: a count of bytes taken that is made up, wrong on some stream that fits, in some cut, with something after it.
 -- Shut has the same of a front part, of mismatches, and of a rule that makes them up
-pub made-up_count : (l : Loader) → Demand2 l → (c : Chain) (m : List ℕ) (check mode : ℕ) (s : Section) (ss : List Section) → Idle c m → Mode mode
+pub made_up_count : (l : Loader) → Demand2 l → (c : Chain) (m : List ℕ) (check mode : ℕ) (s : Section) (ss : List Section) → Idle c m → Mode mode
     → Fitting c check mode s ss → (ps : List (List ℕ)) (b : ℕ) (last rest : List ℕ) → joined ps ++ (b ∷ last) ≡ bytes_of (stream_sent c mode s ss)
     → ((ran l check mode c m ps ((b ∷ last) ++ rest)).fed.answer.taken ≡ length (stream_sent c mode s ss) → ⊥) → ⊥
-made-up_count l d = taken_out l d.a
+made_up_count l d = taken_out l d.a
 
 -- Shut out by name: ours, with one call replaced
 pub record ShutOut : Type 0 where
   -- a constant answer, and so refusing all; storing nothing; counting the bytes of the slice; taking back what a refused slice stored
-  pub constant-answer : (n t w : ℕ) → Demand2 (constant n t w) → ⊥
+  pub constant_answer : (n t w : ℕ) → Demand2 (constant n t w) → ⊥
   pub stores_nothing : Demand2 idle → ⊥
   pub counts_slice : Demand2 (taking (λ c m s. length s)) → ⊥
   pub undoes : Demand2 undoing → ⊥
@@ -393,43 +393,43 @@ pub record ShutOut : Type 0 where
   pub end_exclusive : Demand2 exclusive_end → ⊥
   pub count_plain : Demand2 plain_count → ⊥
   pub own_bar : Demand2 barring → ⊥
-  pub check_writes_lem : Demand2 check_writes → ⊥
-  pub earlier_wins_lem : Demand2 earlier_wins → ⊥
+  pub writes_on_check : Demand2 check_writes → ⊥
+  pub lets_earlier_win : Demand2 earlier_wins → ⊥
   -- document 02, wish 5: a check that loads nothing; a check that loads before the test for 7
   pub check_unloaded : Demand2 unloading → ⊥
   pub check_loads_first : Demand2 loading_first → ⊥
   -- closing bytes one short; offsets from the stream's first byte
-  pub closing-short : Demand3 short_closing → ⊥
-  pub offsets-first : Demand2 offsets_from_first → ⊥
+  pub closing_short : Demand3 short_closing → ⊥
+  pub offsets_first : Demand2 offsets_from_first → ⊥
   -- document 02, wish 8: document 01's closing bytes at 11, and at 2 in a check, whatever is offered elsewhere; none at all
   pub older_at_end : (f : Chain → List ℕ → List ℕ) → OlderAtEnd f → Shortest (offering f) → ⊥
   pub older_at_control : (f : Chain → List ℕ → List ℕ) → OlderAtControl f → Shortest (offering f) → ⊥
   pub offers_nothing : Shortest (offering (λ c m. [])) → ⊥
   -- document 02, wish 9: a memory emptied at each stream; B4 held against the one stream; data picked up one byte late
-  pub wiping-apart : Apart wiping → ⊥
+  pub wiping_apart : Apart wiping → ⊥
   pub wiping_stacked : Stacked wiping → ⊥
   pub own_bar_stacked : Stacked barring → ⊥
-  pub offsets-written : WrittenAsOne offsets_from_first → ⊥
+  pub offsets_written : WrittenAsOne offsets_from_first → ⊥
   -- document 02, wish 2: the stream given back as it came; of overlapping windows the earlier; touching windows left apart
   pub tidies_nothing : OneFile untidied → ⊥
   pub keeps_earlier : TidiesAll earlier_kept → ⊥
   pub leaves_touching : TidiesAll touching_apart → ⊥
   -- document 02, wish 12: the announced count; the window that is not whole, filled up; the bytes taken for the offset; accepted streams alone;
   -- two windows in the other order
-  pub counts-announced : SoundAlways announced_count → ⊥
+  pub counts_announced : SoundAlways announced_count → ⊥
   pub fills_up : SoundAlways filled_up → ⊥
-  pub offset-taken : MachineGives taken_offset → ⊥
+  pub offset_taken : MachineGives taken_offset → ⊥
   pub salvages_accepted : InOrderExactly accepted_alone → ⊥
   pub in_other_order : AsMended other_order → ⊥
   -- document 02, wish 1: a jump after every null byte; what the run before left, kept at a fresh start; counting up in mode 2; a jump above 1FFFF; the
   -- counter kept though B0 is clear; 18 that closes the run; 18 that puts the counter back
-  pub every_null_lem : FetchedAsFed every_null → ⊥
+  pub jumps_every_null : FetchedAsFed every_null → ⊥
   pub keeps_stale : BootsHold stale → ⊥
   pub counts_up : FetchedAsFed upward → ⊥
   pub jumps_far : FetchNumbers far_jump → ⊥
-  pub never_home_lem : FetchLeaves never_home → ⊥
+  pub stays_from_home : FetchLeaves never_home → ⊥
   pub shuts_past : GoesOn shut_past → ⊥
-  pub home_past_lem : GoesOn home_past → ⊥
+  pub homes_past : GoesOn home_past → ⊥
   -- document 02, wish 10: one number for all, and so refusing all; lengths added modulo 2^32; a table written on a refusal; a cell once for each store;
   -- stores for cells stored more than once; cells for bits; closing bytes counted; p left out of the edges; no edges to idle for a stream that runs out; a
   -- reset before each stream; sums of accepted streams alone
@@ -437,22 +437,22 @@ pub record ShutOut : Type 0 where
   pub wraps_lengths : SheetNumbers wrapping_sum → ⊥
   pub fills_refused : SheetLeaves filling_refused → ⊥
   pub counts_stores : SheetLeaves every_store → ⊥
-  pub stores_again_lem : Alone stores_again → ⊥
-  pub cells_for_bits_lem : Alone cells_for_bits → ⊥
-  pub counts-closing : SheetLeaves closing_counted → ⊥
-  pub leaves-p_out : SheetLeaves from_preamble → ⊥
-  pub idle_accepted_lem : Alone idle_accepted → ⊥
+  pub counts_again : Alone stores_again → ⊥
+  pub takes_cells_for_bits : Alone cells_for_bits → ⊥
+  pub counts_closing : SheetLeaves closing_counted → ⊥
+  pub leaves_p_out : SheetLeaves from_preamble → ⊥
+  pub idles_accepted : Alone idle_accepted → ⊥
   pub resets_each : SheetLeaves reset_each → ⊥
   pub sums_accepted : ColumnSums accepted_sums → ⊥
   -- the hunt: the bits before the preamble for those left; positions from 1; a position with a refusal
-  pub left_before_lem : SaysWhere left_before → ⊥
+  pub tells_left_before : SaysWhere left_before → ⊥
   pub from_one : SaysWhere counts_from_one → ⊥
-  pub told_refused_lem : SaysWhere told_refused → ⊥
+  pub tells_refused : SaysWhere told_refused → ⊥
 
 pub shut_out : ShutOut
 shut_out =
     record {
-      constant-answer = λ n t w d. constant_out n t w d.a;
+      constant_answer = λ n t w d. constant_out n t w d.a;
       stores_nothing = λ d. idle_out d.a;
       counts_slice = λ d. per_slice_out d.a;
       undoes = λ d. undoing_out d.d;
@@ -460,46 +460,46 @@ shut_out =
       end_exclusive = λ d. exclusive_end_out d.a;
       count_plain = λ d. plain_count_out d.a;
       own_bar = λ d. barring_out d.a;
-      check_writes_lem = λ d. check_writes_out d.f;
-      earlier_wins_lem = λ d. earlier_wins_out d.a;
+      writes_on_check = λ d. check_writes_out d.f;
+      lets_earlier_win = λ d. earlier_wins_out d.a;
       check_unloaded = λ d. unloading_out d.a;
       check_loads_first = λ d. loading_first_out d.d;
-      closing-short = short_closing_out;
-      offsets-first = λ d. offsets_out d.b;
+      closing_short = short_closing_out;
+      offsets_first = λ d. offsets_out d.b;
       older_at_end = older_end_out;
       older_at_control = older_control_out;
       offers_nothing = nothing_out;
-      wiping-apart = wiping-apart_out;
+      wiping_apart = wiping-apart_out;
       wiping_stacked = wiping_stacked_out;
       own_bar_stacked = barring_stacked_out;
-      offsets-written = offsets-written_out;
+      offsets_written = offsets-written_out;
       tidies_nothing = untidied_out;
       keeps_earlier = earlier_kept_out;
       leaves_touching = touching_apart_out;
-      counts-announced = announced_count_out;
+      counts_announced = announced_count_out;
       fills_up = filled_up_out;
-      offset-taken = taken_offset_out;
+      offset_taken = taken_offset_out;
       salvages_accepted = accepted_alone_out;
       in_other_order = other_order_out;
-      every_null_lem = every_null_out;
+      jumps_every_null = every_null_out;
       keeps_stale = stale_out;
       counts_up = upward_out;
       jumps_far = far_jump_out;
-      never_home_lem = never_home_out;
+      stays_from_home = never_home_out;
       shuts_past = shut_past_out;
-      home_past_lem = home_past_out;
+      homes_past = home_past_out;
       refuses_sheets = refusing_sheets_out;
       wraps_lengths = wrapping_sum_out;
       fills_refused = filling_refused_out;
       counts_stores = every_store_out;
-      stores_again_lem = stores_again_out;
-      cells_for_bits_lem = cells_for_bits_out;
-      counts-closing = closing_counted_out;
-      leaves-p_out = from_preamble_out;
-      idle_accepted_lem = idle_accepted_out;
+      counts_again = stores_again_out;
+      takes_cells_for_bits = cells_for_bits_out;
+      counts_closing = closing_counted_out;
+      leaves_p_out = from_preamble_out;
+      idles_accepted = idle_accepted_out;
       resets_each = reset_each_out;
       sums_accepted = accepted_sums_out;
-      left_before_lem = left_before_out;
+      tells_left_before = left_before_out;
       from_one = from_one_out;
-      told_refused_lem = told_refused_out;
+      tells_refused = told_refused_out;
     }

@@ -23,18 +23,18 @@ length-put_all k (x ∷ xs) l = length-put_all k xs (put (slot k x.to) x.byte l)
 
 -- ---- each place holds the last byte sent to it, or its old value
 
-pub get_d_put : (t : Slot) (b : ℕ) (l : List ℕ) (i : ℕ) → i < length l → get_or (put t b l) i 0 ≡ after t b i (get_or l i 0)
-get_d_put no_slot b l i h = refl
-get_d_put (index j) b l i h =
+pub get_or-put : (t : Slot) (b : ℕ) (l : List ℕ) (i : ℕ) → i < length l → get_or (put t b l) i 0 ≡ after t b i (get_or l i 0)
+get_or-put no_slot b l i h = refl
+get_or-put (index j) b l i h =
     by_test (eqb i j)
     (λ e. rw (e, eqb-true i j e) (get_or-set_same l j b 0 (omega (arith, eqb-true i j e))))
     (λ e. rw e (get_or-set_other l j i b 0 (eqb-false i j e)))
 
-pub get_d_put_all : (k : Store) (xs : List Sent) (l : List ℕ) (i : ℕ) → i < length l → get_or (put_all k xs l) i 0 ≡ last_to k xs i (get_or l i 0)
-get_d_put_all k [] l i h = refl
-get_d_put_all k (x ∷ xs) l i h =
-    get_d_put_all k xs (put (slot k x.to) x.byte l) i (omega (arith, length-put (slot k x.to) x.byte l))
-    ∙ ap (last_to k xs i) (get_d_put (slot k x.to) x.byte l i h)
+pub get_or-put_all : (k : Store) (xs : List Sent) (l : List ℕ) (i : ℕ) → i < length l → get_or (put_all k xs l) i 0 ≡ last_to k xs i (get_or l i 0)
+get_or-put_all k [] l i h = refl
+get_or-put_all k (x ∷ xs) l i h =
+    get_or-put_all k xs (put (slot k x.to) x.byte l) i (omega (arith, length-put (slot k x.to) x.byte l))
+    ∙ ap (last_to k xs i) (get_or-put (slot k x.to) x.byte l i h)
 
 -- ---- putting twice is putting once
 
@@ -67,10 +67,10 @@ put_all_twice k xs l =
     ext_get_or 0 (put_all k xs (put_all k xs l)) (put_all k xs l) (length-put_all k xs (put_all k xs l))
     (λ i h.
     let g : i < length l = omega (arith, length-put_all k xs (put_all k xs l)) in
-    get_d_put_all k xs (put_all k xs l) i (omega arith)
-    ∙ ap (last_to k xs i) (get_d_put_all k xs l i g)
+    get_or-put_all k xs (put_all k xs l) i (omega arith)
+    ∙ ap (last_to k xs i) (get_or-put_all k xs l i g)
     ∙ reach_twice (last_to k xs i) (reach k xs i) (get_or l i 0)
-    ∙ sym (get_d_put_all k xs l i g))
+    ∙ sym (get_or-put_all k xs l i g))
 
 pub put_all-append : (k : Store) (xs ys : List Sent) (l : List ℕ) → put_all k (xs ++ ys) l ≡ put_all k ys (put_all k xs l)
 put_all-append k [] ys l = refl

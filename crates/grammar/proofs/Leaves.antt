@@ -20,7 +20,7 @@ use Rattle.machine.proofs.Runs.{run_lasts}
 use Rattle.grammar.specs.Sent.{Sent, memory, registers, last_to, unlikes}
 use Rattle.grammar.specs.Stores.{walk_of}
 use Rattle.grammar.proofs.Walk.{put_all, run_stores}
-use Rattle.grammar.proofs.LastByte.{get_d_put_all}
+use Rattle.grammar.proofs.LastByte.{get_or-put_all}
 use Rattle.grammar.proofs.StreamShort.{unlikes_few}
 use Rattle.grammar.proofs.Counts.{taken_walk, check-counts, write_counts}
 
@@ -39,7 +39,7 @@ pub record Leaves (check : ℕ) (c : Chain) (m : List ℕ) (xs : List Sent) (r :
 module _ (xs : List Sent) (l : List ℕ) where
   stored : (q : Bool) (i : ℕ) → i < length l
       → get_or (put_all memory (pick q xs []) l) i 0 ≡ pick q (last_to memory xs i (get_or l i 0)) (get_or l i 0)
-  stored true i h = get_d_put_all memory xs l i h
+  stored true i h = get_or-put_all memory xs l i h
   stored false i h = refl
 
 module _ (check mode : ℕ) (c : Chain) (m bs : List ℕ) (xs : List Sent) where
@@ -83,6 +83,6 @@ module _ (check mode : ℕ) (c : Chain) (m bs : List ℕ) (xs : List Sent) where
           mismatches = missed h;
           cells = λ i g. ap (λ (x : List ℕ). get_or x i 0) memory_is ∙ stored xs m (eqb check writing) i g;
           cells_many = l.memory;
-          regs = λ d g. ap (λ (x : List ℕ). get_or x d 0) registers_are ∙ get_d_put_all registers xs c.registers d g;
+          regs = λ d g. ap (λ (x : List ℕ). get_or x d 0) registers_are ∙ get_or-put_all registers xs c.registers d g;
           regs_many = l.registers;
         }

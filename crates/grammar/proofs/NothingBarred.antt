@@ -13,7 +13,7 @@ use Rattle.grammar.specs.Sent.{Target, framing, register, cell, Sent, frame, reg
 use Rattle.grammar.specs.Fits.{Clear}
 use Rattle.grammar.proofs.EachSent.{Each, each_append, each_take, each_lead, each_windows}
 use Rattle.grammar.proofs.Walk.{put, put_all}
-use Rattle.grammar.proofs.SameWay.{Freer, get_d_any}
+use Rattle.grammar.proofs.SameWay.{Freer, get_or-put_any}
 
 -- a byte that is meant for a register has B4 clear
 abbrev pub UnbarredAt : Target → ℕ → Type 0
@@ -34,7 +34,7 @@ freer_one : (t : Target) (b : ℕ) (g h : List ℕ) → UnbarredAt t b → Freer
 freer_one framing b g h u f = f
 freer_one (cell i) b g h u f = f
 freer_one (register j) b g h u f =
-    λ d e. rw (get_d_any (index j) b h d)
+    λ d e. rw (get_or-put_any (index j) b h d)
     (clear_first (ltb d (length h)) (after (index j) b d (get_or h d 0)) 0 (clear_first (eqb d j) b (get_or h d 0) u (f d e)) refl)
 
 freer_all : (xs : List Sent) (g h : List ℕ) → Unbarred xs → Freer g h → Freer g (put_all registers xs h)

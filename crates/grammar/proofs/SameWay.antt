@@ -18,7 +18,7 @@ use Rattle.grammar.specs.Stores.{aim, walk_of}
 use Rattle.grammar.proofs.Walk.{walk_on, walk_over, put, write_changes, byte_stores, byte-changes}
 use Rattle.grammar.proofs.Accepted.{Accepted, last, next, done-over}
 use Rattle.grammar.proofs.OtherRegisters.{with_registers}
-use Rattle.grammar.proofs.LastByte.{length-put, get_d_put}
+use Rattle.grammar.proofs.LastByte.{length-put, get_or-put}
 
 -- B4 of the second is clear where that of the first is: what the one lets through, the other does
 abbrev Looser : ℕ → ℕ → Type 0
@@ -31,9 +31,9 @@ Freer g h = (d : ℕ) → B4 (get_or g d 0) ≡ false → B4 (get_or h d 0) ≡ 
 -- ---- the same byte put into both
 
 -- any place after a store, past the end too
-pub get_d_any : (t : Slot) (b : ℕ) (l : List ℕ) (i : ℕ) → get_or (put t b l) i 0 ≡ pick (ltb i (length l)) (after t b i (get_or l i 0)) 0
-get_d_any t b l i =
-    by_test (ltb i (length l)) (λ e. rw e (get_d_put t b l i (ltb-true i (length l) e)))
+pub get_or-put_any : (t : Slot) (b : ℕ) (l : List ℕ) (i : ℕ) → get_or (put t b l) i 0 ≡ pick (ltb i (length l)) (after t b i (get_or l i 0)) 0
+get_or-put_any t b l i =
+    by_test (ltb i (length l)) (λ e. rw e (get_or-put t b l i (ltb-true i (length l) e)))
     (λ e. rw e (get_or-eq_default (put t b l) 0 (omega (arith, length-put t b l, ltb-false i (length l) e))))
 
 looser_first : (k : Bool) (b x y : ℕ) → Looser x y → Looser (pick k b x) (pick k b y)
@@ -51,7 +51,7 @@ looser_after (index j) b i x y f = looser_first (eqb i j) b x y f
 pub freer_put : (t : Slot) (b : ℕ) (g h : List ℕ) → length h ≡ length g → Freer g h → Freer (put t b g) (put t b h)
 freer_put t b g h l f =
     λ d.
-    rw (get_d_any t b g d, get_d_any t b h d, l)
+    rw (get_or-put_any t b g d, get_or-put_any t b h d, l)
     (looser_second (ltb d (length g)) 0 (after t b d (get_or g d 0)) (after t b d (get_or h d 0)) (looser_after t b d (get_or g d 0) (get_or h d 0) (f d)))
 
 -- ---- one byte

@@ -41,8 +41,8 @@ fn lay(mem: &mut [u8], at: usize, check: u8, t: &[u8]) -> u32
 pub fn bulk(c: Chain, mem: &mut [u8], at: usize, t: &[u8]) -> Chain
     requires { (c.place.awaited ≡ at_data) × (at ≡ address_of c) × (0 < length t.now) × (length t.now ≤ c.place.end - c.place.next + 1)
         × (at + length t.now ≤ length mem.old) × (length t.now ≤ 65536) }
-    ensures t_value { run_of (run c mem.old more) t.now ≡ run result mem.new more }
-    ensures kinds_value { (result.kinds ≡ c.kinds) × (result.place.device ≡ c.place.device) }
+    ensures whole_run { run_of (run c mem.old more) t.now ≡ run result mem.new more }
+    ensures same_device { (result.kinds ≡ c.kinds) × (result.place.device ≡ c.place.device) }
 {
     let p = c.place;
     let k = lay(mem, at, p.check, t);

@@ -133,8 +133,8 @@ fn step(c: Chain, mem: &mut [u8], b: u8) -> Made
 fn rest(c: Chain, mem: &mut [u8], base: usize, s: &[u8]) -> Front
     requires { (base ≡ base_of c.kinds c.place.device) × (base ≤ 524280) }
     ensures used_in_bounds { result.used ≤ length s.now }
-    ensures s_value { run_of (run c mem.old more) s.now ≡ run_of (run result.chain mem.new more) (drop result.used s.now) }
-    ensures kinds_value { (result.chain.kinds ≡ c.kinds) × (result.chain.place.device ≡ c.place.device) }
+    ensures same_run { run_of (run c mem.old more) s.now ≡ run_of (run result.chain mem.new more) (drop result.used s.now) }
+    ensures same_device { (result.chain.kinds ≡ c.kinds) × (result.chain.place.device ≡ c.place.device) }
 {
     if c.place.awaited == AT_DATA {
         let p = c.place;
@@ -153,8 +153,8 @@ fn rest(c: Chain, mem: &mut [u8], base: usize, s: &[u8]) -> Front
 fn windows(c: Chain, mem: &mut [u8], base: usize, size: u16, s: &[u8]) -> Front
     requires { (base ≡ base_of c.kinds c.place.device) × (base ≤ 524280) × (size ≡ size_here c) }
     ensures used_in_bounds { result.used ≤ length s.now }
-    ensures s_value { run_of (run c mem.old more) s.now ≡ run_of (run result.chain mem.new more) (drop result.used s.now) }
-    ensures kinds_value { (result.chain.kinds ≡ c.kinds) × (result.chain.place.device ≡ c.place.device) }
+    ensures same_run { run_of (run c mem.old more) s.now ≡ run_of (run result.chain mem.new more) (drop result.used s.now) }
+    ensures same_device { (result.chain.kinds ≡ c.kinds) × (result.chain.place.device ≡ c.place.device) }
 {
     let n = s.len();
     let mut d = c;
@@ -193,7 +193,7 @@ fn windows(c: Chain, mem: &mut [u8], base: usize, size: u16, s: &[u8]) -> Front
 fn cut(c: Chain, mem: &mut [u8], base: usize, size: u16, s: &[u8]) -> Front
     requires { (base ≡ base_of c.kinds c.place.device) × (base ≤ 524280) × (size ≡ size_here c) }
     ensures used_in_bounds { result.used ≤ length s.now }
-    ensures s_value { run_of (run c mem.old more) s.now ≡ run_of (run result.chain mem.new more) (drop result.used s.now) }
+    ensures same_run { run_of (run c mem.old more) s.now ≡ run_of (run result.chain mem.new more) (drop result.used s.now) }
 {
     if c.place.awaited != AT_NULL {
         return Front { chain: c, used: 0 };
@@ -219,7 +219,7 @@ fn cut(c: Chain, mem: &mut [u8], base: usize, size: u16, s: &[u8]) -> Front
 // its address.
 fn blocks(c: Chain, mem: &mut [u8], s: &[u8]) -> Front
     ensures used_in_bounds { result.used ≤ length s.now }
-    ensures s_value { run_of (run c mem.old more) s.now ≡ run_of (run result.chain mem.new more) (drop result.used s.now) }
+    ensures same_run { run_of (run c mem.old more) s.now ≡ run_of (run result.chain mem.new more) (drop result.used s.now) }
 {
     let ks = c.kinds;
     let size = size_here(c);

@@ -19,7 +19,7 @@ use Rattle.machine.proofs.Runs.{run_lasts}
 use Rattle.grammar.specs.Sent.{registers}
 use Rattle.grammar.specs.Stores.{walk_of}
 use Rattle.grammar.proofs.Walk.{put_all, run_stores}
-use Rattle.grammar.proofs.LastByte.{get_d_put_all, length-put_all}
+use Rattle.grammar.proofs.LastByte.{get_or-put_all, length-put_all}
 use Rattle.grammar.proofs.Runs.Keeps.{run_open}
 use Rattle.grammar.proofs.Runs.Kept.{check-cells}
 use Rattle.grammar.proofs.Runs.AsWrite.{as_write, run-as_write, feed_as_write}
@@ -139,7 +139,7 @@ second_f c m check mode ps last i o u e =
       cells = x.cells ∙ check-cells bs (run (begun c mode check) m more) (checks c m check mode ps last i o u e);
       count = x.count ∙ a.count;
       kinds = x.kinds ∙ a.kinds;
-      regs = λ d l. ap (λ (y : List ℕ). get_or y d 0) r ∙ get_d_put_all registers (walk_of (begun c mode check) bs) c.registers d l;
+      regs = λ d l. ap (λ (y : List ℕ). get_or y d 0) r ∙ get_or-put_all registers (walk_of (begun c mode check) bs) c.registers d l;
       regs_many = ap length r ∙ length-put_all registers (walk_of (begun c mode check) bs) c.registers;
       keeps_going = λ h. (b h).keeps_going;
       as_written = λ h. (b h).registers;

@@ -7,7 +7,7 @@ pub windows-g-requires : goal.windows-g-requires
 windows-g-requires c =
     let a = c.args in
     let f = c.rest-f in
-    let same = f.ensures.kinds_value in (
+    let same = f.ensures.same_device in (
       c.base_of-base.ensures.value ∙ same_base a.c f.result.chain same.0 same.1,
       c.base_of-base.ensures.upper_bound,
       c.size_here-size.ensures ∙ same_size a.c f.result.chain same.0 same.1,
@@ -26,9 +26,9 @@ cut-h-requires c =
     let a = c.args in
     let f = c.rest-f in
     let g = c.windows-g in
-    let same = f.ensures.kinds_value in
-    let kinds = g.ensures.kinds_value.0 ∙ same.0 in
-    let device = g.ensures.kinds_value.1 ∙ same.1 in (
+    let same = f.ensures.same_device in
+    let kinds = g.ensures.same_device.0 ∙ same.0 in
+    let device = g.ensures.same_device.1 ∙ same.1 in (
       c.base_of-base.ensures.value ∙ same_base a.c g.result.chain kinds device,
       c.base_of-base.ensures.upper_bound,
       c.size_here-size.ensures ∙ same_size a.c g.result.chain kinds device,
@@ -53,7 +53,7 @@ returns c =
     let k = c.cut-h in
     let j = within s f.result.used g.result.used (rw (lent-rest s 0) at f.ensures.used_in_bounds) g.ensures.used_in_bounds in record {
       used_in_bounds = within s (f.result.used + g.result.used) k.result.used j k.ensures.used_in_bounds;
-      s_value = (rw (lent-rest s 0) at f.ensures.s_value)
-          ∙ run-rest f.result.chain f.new.mem s f.result.used g.result.used _ g.ensures.s_value
-          ∙ run-rest g.result.chain g.new.mem s (f.result.used + g.result.used) k.result.used _ k.ensures.s_value;
+      same_run = (rw (lent-rest s 0) at f.ensures.same_run)
+          ∙ run-rest f.result.chain f.new.mem s f.result.used g.result.used _ g.ensures.same_run
+          ∙ run-rest g.result.chain g.new.mem s (f.result.used + g.result.used) k.result.used _ k.ensures.same_run;
     }

@@ -28,9 +28,9 @@ returns-then-fits c =
     let h = c.headed-h in
     let f = c.rest-f in record {
       used_in_bounds = within s 5 f.result.used c.if-s-lt5.false f.ensures.used_in_bounds;
-      s_value = run_part a.c a.mem.now s 0 5 _
+      same_run = run_part a.c a.mem.now s 0 5 _
           (header_part a.c a.mem.now s 0 start.result end.result (search rules) c.if-c-ne-AT_NULL.false start.ensures end.ensures
           (ap (λ (x : ℕ). fits_of x start.result end.result) (sym c.requires.2) ∙ sym c.fits.ensures ∙ c.if-fits.true))
           ∙ ap (λ (x : Chain). run_of (run x a.mem.now more) (drop 5 s)) (sym h.ensures)
-          ∙ run-rest h.result a.mem.now s 5 f.result.used _ f.ensures.s_value;
+          ∙ run-rest h.result a.mem.now s 5 f.result.used _ f.ensures.same_run;
     }

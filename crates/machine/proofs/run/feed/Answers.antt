@@ -6,7 +6,7 @@ use Rattle.machine.proofs.run.feed.Goals.{then-bulky, else-bulky}
 
 pub loop-i-init : goal.loop-i-init
 loop-i-init c =
-    elim c.if-bulky.branch [ then-bulky w ↦ (rw w.i-is w.blocks-f.ensures.used_in_bounds, rw (w.mem-is, w.d-is, w.i-is) w.blocks-f.ensures.s_value) | else-bulky w ↦ (omega (arith, w.i-is), rw (w.mem-is, w.d-is, w.i-is)) ]
+    elim c.if-bulky.branch [ then-bulky w ↦ (rw w.i-is w.blocks-f.ensures.used_in_bounds, rw (w.mem-is, w.d-is, w.i-is) w.blocks-f.ensures.same_run) | else-bulky w ↦ (omega (arith, w.i-is), rw (w.mem-is, w.d-is, w.i-is)) ]
 
 pub returns-then-r-ne-MORE : goal.returns-then-r-ne-MORE
 returns-then-r-ne-MORE c =
@@ -28,7 +28,7 @@ loop-i-preserved-then-bulky-2 c =
       within s (l.i + 1) f.result.used (omega (arith, more)) f.ensures.used_in_bounds,
       l.invariant.1 ∙ run_at l.d l.mem s l.i more
           ∙ ap (λ (x : Run). run_of x (drop (l.i + 1) s)) (c.step-r.ensures ∙ rw c.if-r-ne-MORE.false)
-          ∙ run-rest c.step-r.result.chain c.step-r.new.mem s (l.i + 1) f.result.used _ f.ensures.s_value,
+          ∙ run-rest c.step-r.result.chain c.step-r.new.mem s (l.i + 1) f.result.used _ f.ensures.same_run,
     )
 
 pub loop-i-smaller : goal.loop-i-smaller

@@ -24,4 +24,4 @@ pub returns-then-k-gt0 : goal.returns-then-k-gt0
 returns-then-k-gt0 c =
     let a = c.args in
     let f = c.bulk-d in
-    record { used_in_bounds = c.span-k.ensures.given; s_value = run-front a.c a.mem.now a.s.now c.span-k.result _ f.ensures.t_value; kinds_value = f.ensures.kinds_value }
+    record { used_in_bounds = c.span-k.ensures.given; same_run = run-front a.c a.mem.now a.s.now c.span-k.result _ f.ensures.whole_run; same_device = f.ensures.same_device }

@@ -13,16 +13,16 @@ loop-i-init c = (search rules, refl, refl, refl, refl)
 
 -- what a turn has found holds at each return
 pub returns-then-d-ne-AT_NULL : goal.returns-then-d-ne-AT_NULL
-returns-then-d-ne-AT_NULL c = let l = c.loop-i in record { used_in_bounds = l.invariant.0; s_value = l.invariant.2; kinds_value = (l.invariant.3, l.invariant.4) }
+returns-then-d-ne-AT_NULL c = let l = c.loop-i in record { used_in_bounds = l.invariant.0; same_run = l.invariant.2; same_device = (l.invariant.3, l.invariant.4) }
 
 pub returns-then-n-i-lt5 : goal.returns-then-n-i-lt5
-returns-then-n-i-lt5 c = let l = c.loop-i in record { used_in_bounds = l.invariant.0; s_value = l.invariant.2; kinds_value = (l.invariant.3, l.invariant.4) }
+returns-then-n-i-lt5 c = let l = c.loop-i in record { used_in_bounds = l.invariant.0; same_run = l.invariant.2; same_device = (l.invariant.3, l.invariant.4) }
 
 pub returns-then-not-fits : goal.returns-then-not-fits
-returns-then-not-fits c = let l = c.loop-i in record { used_in_bounds = l.invariant.0; s_value = l.invariant.2; kinds_value = (l.invariant.3, l.invariant.4) }
+returns-then-not-fits c = let l = c.loop-i in record { used_in_bounds = l.invariant.0; same_run = l.invariant.2; same_device = (l.invariant.3, l.invariant.4) }
 
 pub returns-then-n-f : goal.returns-then-n-f
-returns-then-n-f c = let l = c.loop-i in record { used_in_bounds = l.invariant.0; s_value = l.invariant.2; kinds_value = (l.invariant.3, l.invariant.4) }
+returns-then-n-f c = let l = c.loop-i in record { used_in_bounds = l.invariant.0; same_run = l.invariant.2; same_device = (l.invariant.3, l.invariant.4) }
 
 pub bulk-g-requires : goal.bulk-g-requires
 unfolding address_of
@@ -67,10 +67,10 @@ loop-i-preserved c =
           (header_part l.d l.mem s l.i start.result end.result (omega (arith, five)) c.if-d-ne-AT_NULL.false start.ensures end.ensures
           (ap (λ (x : ℕ). fits_of x start.result end.result) (sym size) ∙ sym c.fits.ensures ∙ c.if-not-fits.false))
           ∙ ap (λ (x : Chain). run_of (run x l.mem more) (drop (l.i + 5) s)) (sym h.ensures)
-          ∙ run_part h.result l.mem s (l.i + 5) w.result _ f.ensures.t_value,
-      f.ensures.kinds_value.0 ∙ ap (λ (x : Chain). x.kinds) h.ensures ∙ l.invariant.3,
-      f.ensures.kinds_value.1 ∙ ap (λ (x : Chain). x.place.device) h.ensures ∙ l.invariant.4,
+          ∙ run_part h.result l.mem s (l.i + 5) w.result _ f.ensures.whole_run,
+      f.ensures.same_device.0 ∙ ap (λ (x : Chain). x.kinds) h.ensures ∙ l.invariant.3,
+      f.ensures.same_device.1 ∙ ap (λ (x : Chain). x.place.device) h.ensures ∙ l.invariant.4,
     )
 
 pub returns : goal.returns
-returns c = let l = c.loop-i in record { used_in_bounds = l.invariant.0; s_value = l.invariant.2; kinds_value = (l.invariant.3, l.invariant.4) }
+returns c = let l = c.loop-i in record { used_in_bounds = l.invariant.0; same_run = l.invariant.2; same_device = (l.invariant.3, l.invariant.4) }
