@@ -33,14 +33,51 @@ HAND = {
     "other-order": "in_other_order",
     "goes_on": "keeps_going",
     "closed-place": "is_closed",
-    "getD-any": "get_or-put_any",
+    "get_d_any": "get_or-put_any",
     "getD-put": "get_or-put",
     "getD-putAll": "get_or-put_all",
     "byRow": "formed_by_row",
     "fromOne": "counts_from_one",
 }
+# the page that is read first: plain phrases
+MAIN = {
+        "loads-and-checks": "loads_and_checks",
+        "serial-stop": "serial_stop",
+        "check-leaves": "check_leaves",
+        "all-accepted": "all_accepted",
+        "stream-tidied": "stream_tidied",
+        "no-other-bytes": "no_other_bytes",
+        "one-meaning-one-file": "one_meaning_one_file",
+        "stream-mended": "stream_mended",
+        "same-stream": "same_stream",
+        "accepted-at-end": "accepted_at_end",
+        "every-stop-fetched": "every_stop_fetched",
+        "one-by-hand": "one_by_hand",
+        "distinct-cells": "distinct_cells",
+        "figures-of-a-row": "figures_of_a_row",
+        "made-up-count": "made_up_count",
+        "constant-answer": "constant_answer",
+        "check-writes": "writes_on_check",
+        "earlier-wins": "lets_earlier_win",
+        "closing-short": "closing_short",
+        "offsets-first": "offsets_first",
+        "wiping-apart": "wiping_apart",
+        "offsets-written": "offsets_written",
+        "counts-announced": "counts_announced",
+        "offset-taken": "offset_taken",
+        "every-null": "jumps_every_null",
+        "never-home": "stays_from_home",
+        "home-past": "homes_past",
+        "stores-again": "counts_again",
+        "cells-for-bits": "takes_cells_for_bits",
+        "counts-closing": "counts_closing",
+        "leaves-p-out": "leaves_p_out",
+        "idle-accepted": "idles_accepted",
+        "left-before": "tells_left_before",
+        "told-refused": "tells_refused",
+}
 # the same, in these folders alone
-THERE = {"crates/demands/proofs/salvage/": {"badEnd": "bad_end_stream", "badStart": "bad_start_stream"}, "crates/demands/proofs/wrong/Salvagers.antt": {"badStart": "bad_start_stream"}, "crates/demands/proofs/eprom/CounterWay.antt": {"at_null": "null_next"}}
+THERE = {"crates/demands/proofs/salvage/": {"badEnd": "bad_end_stream", "badStart": "bad_start_stream"}, "crates/demands/proofs/wrong/Salvagers.antt": {"badStart": "bad_start_stream"}, "crates/demands/proofs/Main.antt": MAIN, "crates/demands/proofs/eprom/CounterWay.antt": {"at_null": "null_next"}}
 MADE = re.compile(r"\b(?:goal|tie|c|w)$")
 
 
