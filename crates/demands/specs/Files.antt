@@ -1,8 +1,8 @@
 -- The second demand, clauses (b) and (c): what is written is such a stream, lists as its windows and loads; one section that is accepted,
 -- listed and written again, gives its own bytes, lead-in and null bytes apart. Assumes nothing.
-use Rattle.std.specs.Prelude.{ℕ, ◌+◌, ◌-◌, ◌≤◌, ◌≡◌, List, [], ◌∷◌, ◌++◌, length, get_or, take, drop, replicate}
+use Rattle.std.specs.Prelude.{ℕ, ◌+◌, ◌-◌, ◌≤◌, ◌||◌, eqb, ◌≡◌, List, [], ◌∷◌, ◌++◌, length, get_or, take, drop, replicate}
 use Rattle.chain.specs.declared.Chain.{Chain}
-use Rattle.chain.specs.Paper.{done, serial}
+use Rattle.chain.specs.Paper.{done, serial_external, serial_internal}
 use Rattle.chain.specs.Rules.{pick}
 use Rattle.chain.specs.Kinds.{size_of}
 use Rattle.chain.specs.Calls.{no_chain}
@@ -30,7 +30,7 @@ wanted mode s = lead_in mode ++ bytes_of (sections_sent no_chain 0 s [])
 -- the bytes that the machine and the lister are given of a stream: in modes 3 and 4 the hunted ones, for which an output as long has room
 abbrev pub given : Loader → ℕ → List ℕ → List ℕ
 given l mode bs =
-    pick (serial mode)
+    pick (eqb mode serial_external || eqb mode serial_internal)
     (take (l.hunt bs (replicate (length bs) 0)).hunted.length (l.hunt bs (replicate (length bs) 0)).out)
     bs
 
