@@ -17,3 +17,4 @@ pub mod Table
 pub mod Only
 pub mod Output
 pub mod Over
+pub mod PassedUp

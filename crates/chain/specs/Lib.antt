@@ -10,3 +10,5 @@ pub mod ByRow
 pub mod Calls
 pub mod WellFormed
 pub mod Table
+pub mod Refusal
+pub mod Mode

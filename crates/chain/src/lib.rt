@@ -1,18 +1,24 @@
 // A chain of devices: the paper's constants, kinds and sizes, the state, what makes a state refused, and how one is made and reset.
 #![tactic(auto)]
 
+pub mod control;
 pub mod eight;
 pub mod kinds;
+pub mod mode;
 pub mod paper;
+pub mod refusal;
 pub mod state;
 pub mod window;
 
 ghost use Rattle.chain.specs.Calls.{New, Reset, fresh_chain, no_chain};
+ghost use Rattle.chain.specs.Paper.{done};
+ghost use Rattle.chain.specs.Refusal.{number_of, answered, length_in};
 ghost use Rattle.chain.specs.Set.{closed_place};
 ghost use Rattle.std.specs.Prelude.{◌≡◌, length, replicate};
 
 use crate::eight::first_only;
 use crate::paper::*;
+use crate::refusal::Refusal;
 use crate::state::bad_chain;
 
 // An open place in a stream. `running` is 0 for none and 1 for an open one, `check` 0 for a write and 1 for a check:
@@ -59,6 +65,46 @@ pub struct Made {
 pub struct Written {
     pub number: u8,
     pub length: usize,
+}
+
+impl Made {
+    // The state that a call leaves where nothing refuses it.
+    pub fn done(chain: Chain) -> Made
+        ensures { result ≡ record { chain = chain; number = done } }
+    {
+        Made {
+            chain,
+            number: DONE,
+        }
+    }
+
+    // The state that is handed back with a refusal's number.
+    pub fn refused(chain: Chain, refusal: Refusal) -> Made
+        ensures { result ≡ record { chain = chain; number = number_of refusal } }
+    {
+        Made {
+            chain,
+            number: refusal.number(),
+        }
+    }
+}
+
+// How many bytes were written, or what refused the call.
+impl From<Result<usize, Refusal>> for Written {
+    ghost from_gives = { λ r w. w ≡ record { number = answered r; length = length_in r } };
+
+    fn from(r: Result<usize, Refusal>) -> Written {
+        match r {
+            Ok(length) => Written {
+                number: DONE,
+                length,
+            },
+            Err(refusal) => Written {
+                number: refusal.number(),
+                length: 0,
+            },
+        }
+    }
 }
 
 // No run open: every field zero.

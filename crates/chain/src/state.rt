@@ -1,11 +1,13 @@
 // What makes a lent state refused: number 1 and number 17, apart, since later numbers stand between them.
 ghost use Rattle.std.specs.Prelude.{◌≡◌};
 ghost use Rattle.chain.specs.ByRow.{held, none_open, row_at_preamble, row_at_second, row_at_control, outside, inside, no_bounds, half_start, start_alone, half_end, both_bounds, formed_by_row};
+ghost use Rattle.chain.specs.Refusal.{answered};
 ghost use Rattle.chain.specs.State.{is_bad_chain, unused_zero, is_well_formed, is_ill_formed, state_number, open_number, feed_number};
 
 use crate::eight::{at8, unused_zero};
 use crate::kinds::size_of;
 use crate::paper::*;
+use crate::refusal::Refusal;
 use crate::{Chain, Place};
 
 // Number 1. A size is looked up once: an unknown kind has none.
@@ -187,6 +189,38 @@ pub fn open_number(c: Chain, len: usize) -> u8
         return NO_RUN;
     }
     DONE
+}
+
+// What refuses every call on a state: 1, then 17.
+pub fn sound(c: Chain, len: usize) -> Result<(), Refusal>
+    ensures { answered result ≡ state_number c len }
+{
+    let ks = c.kinds;
+    if bad_chain(c.count, ks, len) {
+        return Err(Refusal::BadChain);
+    }
+    if ill_formed(c) {
+        return Err(Refusal::IllFormed);
+    }
+    Ok(())
+}
+
+// And a call that wants a run open: 4.
+pub fn open(c: Chain, len: usize) -> Result<(), Refusal>
+    ensures { answered result ≡ open_number c len }
+{
+    sound(c, len)?;
+    if c.place.running == CLOSED {
+        return Err(Refusal::NoRun);
+    }
+    Ok(())
+}
+
+// And a call that feeds bytes: the same.
+pub fn fed(c: Chain, len: usize) -> Result<(), Refusal>
+    ensures { answered result ≡ feed_number c len }
+{
+    open(c, len)
 }
 
 // The same for every call on a state: 1, then 17, or 0.
