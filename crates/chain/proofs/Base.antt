@@ -1,10 +1,13 @@
 -- Where a device's memory begins, one device further. Assumes nothing.
 use Prim.Native.Nat.{ℕ, zero, suc, ◌+◌, ◌<◌, ◌≤◌}
-use mathlib.Core.Path.{◌≡◌, refl, ap}
+use mathlib.Core.Path.{◌≡◌, refl, ap, ◌∙◌}
+use Rattle.std.proofs.Common.{min, ◌⊎◌, inl, inr}
+use Rattle.std.proofs.lemmas.Bool.{cases_lt}
+use Rattle.std.proofs.lemmas.List.{length-take-le}
 use mathlib.Core.List.{List, [], ◌∷◌}
 use native.Mathlib.Nat.{le_of_suc-le-suc, not-suc-le-zero}
 use native.Mathlib.Omega.{arith}
-use lib.ListN.{length, get_or, set, get_or-eq_default}
+use lib.ListN.{length, get_or, set, take, get_or-eq_default}
 use lib.Seq.{set_out}
 use Rattle.chain.specs.Kinds.{size_of, base_of}
 
@@ -23,6 +26,24 @@ base_out [] (suc n) (suc m) h g = refl
 base_out (k ∷ ks) zero m h g = absurd (not-suc-le-zero h)
 base_out (k ∷ ks) (suc n) zero h g = absurd (not-suc-le-zero g)
 base_out (k ∷ ks) (suc n) (suc m) h g = ap (λ (x : ℕ). size_of k + x) (base_out ks n m (le_of_suc-le-suc h) (le_of_suc-le-suc g))
+
+-- the first m kinds are enough
+pub base_take : (ks : List ℕ) (m : ℕ) → base_of (take m ks) m ≡ base_of ks m
+unfolding base_of
+base_take ks zero = refl
+base_take [] (suc m) = refl
+base_take (k ∷ ks) (suc m) = ap (λ (x : ℕ). size_of k + x) (base_take ks m)
+
+-- of eight kinds, the first d or all: they are where the memory of device d begins
+pub base_front : (ks : List ℕ) (m d i : ℕ) → length ks ≡ 8 → m ≡ min d 8 → i ≤ length (take m ks) → length (take m ks) ≤ i
+    → base_of (take m ks) i ≡ base_of ks d
+base_front ks m d i eight least below above =
+    let long = length-take-le m ks (omega (arith, eight, least)) in
+    ap (λ (x : ℕ). base_of (take m ks) x) (omega (arith, long, below, above)) ∙ base_take ks m ∙ rest (cases_lt d 8)
+  where
+    rest : (d < 8) ⊎ (8 ≤ d) → base_of ks m ≡ base_of ks d
+    rest (inl low) = ap (λ (x : ℕ). base_of ks x) (omega (arith, least, low))
+    rest (inr high) = base_out ks m d (omega (arith, eight, least, high)) (omega (arith, eight, high))
 
 -- past the end of a list of numbers nothing is read or stored
 pub read_past : (l : List ℕ) (i : ℕ) → length l ≤ i → get_or l i 0 ≡ 0

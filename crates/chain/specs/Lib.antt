@@ -12,3 +12,4 @@ pub mod WellFormed
 pub mod Table
 pub mod Refusal
 pub mod Mode
+pub mod KnownKinds

@@ -1,5 +1,7 @@
 -- A window of cells: its bounds come as two bytes each, high and low, and it covers start to end inclusive. Assumes nothing.
-use Rattle.std.specs.Prelude.{ℕ, ◌+◌, ◌-◌, ◌*◌, ◌/◌, ◌%◌, Bool, not, ◌&&◌, ◌||◌, ltb, leb}
+use Rattle.std.specs.Prelude.{ℕ, ◌+◌, ◌-◌, ◌*◌, ◌/◌, ◌%◌, Bool, not, ◌&&◌, ◌||◌, ltb, leb, List, [], ◌∷◌}
+use Rattle.chain.specs.Paper.{done, bad_start, bad_end}
+use Rattle.chain.specs.Rules.{pick}
 
 -- a number of two bytes, and its bytes
 abbrev pub word : ℕ → ℕ → ℕ
@@ -30,3 +32,11 @@ end_outside size start end = ltb end start || not (ltb end size)
 -- a window that a device of that size has
 abbrev pub fits_of : ℕ → ℕ → ℕ → Bool
 fits_of size start end = ltb start size && leb start end && ltb end size
+
+-- what refuses a window: its start, then its end
+abbrev pub window_number : ℕ → ℕ → ℕ → ℕ
+window_number size start end = pick (start_outside size start) bad_start (pick (end_outside size start end) bad_end done)
+
+-- the five bytes before a window's data: null byte, start, end
+abbrev pub framing_of : ℕ → ℕ → List ℕ
+framing_of start end = 0 ∷ high_byte start ∷ low_byte start ∷ high_byte end ∷ low_byte end ∷ []

@@ -1,27 +1,22 @@
-use Prim.Native.Nat.{◌<◌}
-use mathlib.Core.Path.{◌≡◌, refl, ◌∙◌}
-use borrow.Author.Rules.{rules}
-use native.Mathlib.Omega.{arith}
-use native.Mathlib.Numerals.{add-one}
-use lib.ListN.{length}
+use Rattle.std.proofs.Common.{rules, ◌≡◌, ◌≤◌, ◌<◌, refl, length, arith, take, min, add-one}
 use Rattle.chain.specs.Kinds.{base_of}
-use Rattle.chain.proofs.Base.{base_suc, base_out}
+use Rattle.chain.proofs.Base.{base_suc, base_front}
 use Rattle.chain.proofs.kinds.base_of.Goals as goal
 
-pub loop-i-init : goal.loop-i-init
-loop-i-init c = (search rules, search rules, search rules, unfold base_of in refl)
+pub loop-kind-init : goal.loop-kind-init
+loop-kind-init c = (search rules, unfold base_of in refl)
 
-pub returns-then-i-ge8 : goal.returns-then-i-ge8
-returns-then-i-ge8 c =
-    let eight : length c.args.kinds ≡ 8 = search rules in record { value = c.loop-i.invariant.3 ∙ base_out c.args.kinds c.loop-i.i c.args.device (omega arith) (omega arith); upper_bound = search rules }
+pub loop-kind-preserved : goal.loop-kind-preserved
+loop-kind-preserved c =
+    let i = c.loop-kind.kind-index in
+    let ks = take c.min.result c.args.kinds in
+    let below = c.loop-kind-test.true in
+    (search rules, rw (add-one, base_suc ks i below) (cc))
 
-pub loop-i-preserved : goal.loop-i-preserved
-loop-i-preserved c =
+pub returns-clause-value : goal.returns-clause-value
+returns-clause-value c =
+    let i = c.loop-kind in
     let eight : length c.args.kinds ≡ 8 = search rules in
-    let below : c.loop-i.i < length c.args.kinds = omega arith in
-    (search rules, search rules, search rules, rw (add-one, base_suc) (cc))
-
-pub returns : goal.returns
-returns c =
-    let same : c.loop-i.i ≡ c.args.device = omega arith in
-    record { value = cc; upper_bound = search rules }
+    let least : c.min.result ≡ min c.args.device 8 = cc in
+    let same = base_front c.args.kinds c.min.result c.args.device i.kind-index eight least (search rules) c.loop-kind-test.false in
+    cc

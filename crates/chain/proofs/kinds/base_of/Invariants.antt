@@ -1,10 +1,6 @@
-use Prim.Native.Nat.{◌≤◌, ◌-◌, ◌*◌}
-use mathlib.Core.Path.{◌≡◌}
+use Rattle.std.proofs.Common.{◌≡◌, ◌≤◌, ◌*◌}
 use Rattle.chain.specs.Kinds.{base_of}
 use Rattle.chain.proofs.kinds.base_of.Given as goal
 
-abbrev pub invariant-loop-i : goal.invariant-loop-i
-invariant-loop-i l = (l.i ≤ l.device) × (l.i ≤ 8) × (l.sum ≤ 65535 * l.i) × (l.sum ≡ base_of l.kinds l.i)
-
-abbrev pub decreases-loop-i : goal.decreases-loop-i
-decreases-loop-i l = l.device - l.i
+abbrev pub invariant-loop-kind : goal.invariant-loop-kind
+invariant-loop-kind l = (l.sum ≤ 65535 * l.kind-index) × (l.sum ≡ base_of l.kind-items l.kind-index)
