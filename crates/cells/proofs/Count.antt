@@ -1,14 +1,16 @@
 -- Differing places counted one by one, or in blocks. Assumes nothing.
-use Prim.Native.Nat.{ℕ, zero, suc, ◌+◌, ◌-◌, ◌<◌, ◌≤◌}
+use Prim.Native.Nat.{ℕ, zero, suc, ◌+◌, ◌<◌, ◌≤◌}
 use mathlib.Core.Bool.{Bool, true, false}
-use mathlib.Core.Path.{◌≡◌, refl}
-use mathlib.Core.List.{List, [], ◌∷◌}
+use mathlib.Core.Path.{◌≡◌, refl, ap, ◌∙◌}
+use mathlib.Core.List.{List, [], ◌∷◌, ◌++◌}
+use Rattle.std.proofs.Common.{min, length-append}
+use Rattle.std.proofs.lemmas.Bool.{cases_lt}
 use mathlib.Core.Logic.{◌⊎◌, inl, inr}
 use native.Mathlib.Numerals.{add-one}
 use native.Mathlib.Omega.{arith}
 use lib.Dec.{eqb}
-use lib.ListN.{length, get_or, set, take, drop, drop_of_length-le, length-take}
-use lib.Seq.{sets, set_out, drop-cons, drop-drop}
+use lib.ListN.{length, get_or, set, take, drop, drop_of_length-le}
+use lib.Seq.{sets, set_out, drop-cons}
 use Rattle.cells.specs.Differ.{one_unless, unlike_of, differs}
 
 miss_le : (q : Bool) → one_unless q ≤ 1
@@ -58,14 +60,42 @@ pub copy_end : (d s : List ℕ) (i : ℕ) → (length d ≤ i) ⊎ (length s ≤
 copy_end d s i (inl h) = sets_out (drop i s) d i h
 copy_end d s i (inr h) = rw (drop_of_length-le s h)
 
--- a block further: the parts are as a lent part of a slice from i to i + k has them
-pub differs-block : (xs ys : List ℕ) (i k : ℕ)
-    → differs (drop i xs) (drop i ys)
-    ≡ differs (take (i + k - i) (drop i xs)) (take (i + k - i) (drop i ys)) + differs (drop (i + k) xs) (drop (i + k) ys)
-differs-block xs ys i k =
-    let e : i + k - i ≡ k = omega arith in
-    rw e (rw (← drop-drop k i xs, ← drop-drop k i ys) (differs_split k (drop i xs) (drop i ys)))
+pub differs_append : (xs ys us vs : List ℕ) → length xs ≡ length ys → differs (xs ++ us) (ys ++ vs) ≡ differs xs ys + differs us vs
+unfolding differs
+differs_append [] [] us vs h = omega arith
+differs_append [] (y ∷ ys) us vs h = absurd (omega (arith, h))
+differs_append (x ∷ xs) [] us vs h = absurd (omega (arith, h))
+differs_append (x ∷ xs) (y ∷ ys) us vs h = omega (arith, differs_append xs ys us vs (omega (arith, h)))
 
--- a block has no more differing places than places
-pub differs_few : (xs ys : List ℕ) (i k : ℕ) → differs (take (i + k - i) xs) (take (i + k - i) ys) ≤ k
-differs_few xs ys i k = omega (arith, differs-le (take (i + k - i) xs) (take (i + k - i) ys), length-take (i + k - i) ys)
+-- a block further: of two lists of one length the first blocks and what is left
+pub differs_block : (us vs xs ys us' vs' : List ℕ) (n m : ℕ) → n ≡ m → length us ≡ length vs
+    → us ≡ xs ++ us' → length xs ≡ min n (length us) → vs ≡ ys ++ vs' → length ys ≡ min m (length vs)
+    → record {
+      even : length us' ≡ length vs';
+      left : length ys + length vs' ≡ length vs;
+      few : differs xs ys ≤ length ys;
+      both : differs us vs ≡ differs xs ys + differs us' vs';
+    }
+differs_block us vs xs ys us' vs' n m same even a long b wide =
+    let block : length xs ≡ length ys = omega (arith, long, wide, same, even) in
+    let la : length us ≡ length xs + length us' = ap length a ∙ length-append xs us' in
+    let lb : length vs ≡ length ys + length vs' = ap length b ∙ length-append ys vs' in
+    record {
+      even = omega (arith, la, lb, block, even);
+      left = omega (arith, lb);
+      few = differs-le xs ys;
+      both = rw (a, b) (differs_append xs ys us' vs' block);
+    }
+
+-- as far as the shorter goes is all
+pub differs_least : (xs ys : List ℕ) (n : ℕ) → n ≡ min (length xs) (length ys) → differs (take n xs) (take n ys) ≡ differs xs ys
+differs_least xs ys n least = omega (arith, differs_split n xs ys, differs-end xs ys n (shorter (cases_lt (length xs) (length ys))))
+  where
+    shorter : (length xs < length ys) ⊎ (length ys ≤ length xs) → (length xs ≤ n) ⊎ (length ys ≤ n)
+    shorter (inl h) = inl (omega (arith, least, h))
+    shorter (inr h) = inr (omega (arith, least, h))
+
+pub differs_empty : (xs ys : List ℕ) → length xs ≡ 0 → differs xs ys ≡ 0
+unfolding differs
+differs_empty [] ys h = refl
+differs_empty (x ∷ xs) ys h = absurd (omega (arith, h))

@@ -9,68 +9,48 @@ ghost use Rattle.cells.specs.Differ.{unlike_of, differs};
 pub fn least(a: usize, b: usize) -> usize
     ensures { (result ≤ a) × (result ≤ b) × ((result ≡ a) ⊎ (result ≡ b)) }
 {
-    if a < b { a } else { b }
+    a.min(b)
 }
 
 // Copies src over the front of dst.
 pub fn copy(dst: &mut [u8], src: &[u8])
     ensures { dst.new ≡ sets dst.old 0 src.now }
 {
-    let n = least(dst.len(), src.len());
-    let mut i: usize = 0;
-    while i < n {
-        dst[i] = src[i];
-        i += 1;
-    }
+    let n = dst.len().min(src.len());
+    dst[..n].copy_from_slice(&src[..n]);
 }
 
 // 1 where two bytes differ, else 0.
 pub fn unlike(a: u8, b: u8) -> u8
     ensures { (result ≡ unlike_of a b) × (result ≤ 1) }
 {
-    if a == b { 0 } else { 1 }
+    u8::from(a != b)
 }
 
-fn wide(x: u8) -> usize
-    ensures { (result ≡ x) × (result < 256) }
-{
-    x as usize
-}
+// So many cells are counted with a counter of one byte, which lets the loop run on vectors of bytes.
+const BLOCK: usize = 240;
 
-// In how many places two blocks of at most 240 bytes differ: a counter of one byte lets the loop run on vectors of bytes.
+// In how many places two blocks of one length differ.
+#[tactic(auto, unfolding(crate::specs::Differ::differs))]
 fn few(a: &[u8], b: &[u8]) -> u8
     requires { (length a.now ≡ length b.now) × (length b.now ≤ 240) }
     ensures { result ≡ differs a.now b.now }
 {
-    let n = b.len();
     let mut count: u8 = 0;
-    let mut i: usize = 0;
-    while i < n {
-        count += unlike(a[i], b[i]);
-        i += 1;
+    for (x, y) in a.iter().zip(b) {
+        count += unlike(*x, *y);
     }
     count
-}
-
-fn block(left: usize) -> usize
-    requires { 0 < left }
-    ensures { (0 < result) × (result ≤ left) × (result ≤ 240) }
-{
-    if left < 240 { left } else { 240 }
 }
 
 // In how many places two blocks differ.
 pub fn differ(a: &[u8], b: &[u8]) -> usize
     ensures { result ≡ differs a.now b.now }
 {
-    let n = least(a.len(), b.len());
+    let n = a.len().min(b.len());
     let mut count: usize = 0;
-    let mut i: usize = 0;
-    while i < n {
-        let e = i + block(n - i);
-        let k = few(&a[i..e], &b[i..e]);
-        count += wide(k);
-        i = e;
+    for (x, y) in a[..n].chunks(BLOCK).zip(b[..n].chunks(BLOCK)) {
+        count += usize::from(few(x, y));
     }
     count
 }

@@ -1,5 +1,5 @@
 -- A refusal passed up, as `?` does it: no refusal's number is 0, so that a rule that comes after it says nothing.
-use Rattle.std.specs.Prelude.{ℕ, ◌≡◌, refl, Bool, true, false, eqb}
+use Rattle.std.specs.Prelude.{ℕ, ◌≡◌, refl, false, eqb}
 use mathlib.Core.Path.{sym, ◌∙◌, ap}
 use Rattle.chain.specs.declared.refusal.Refusal.{Refusal}
 use Rattle.chain.specs.declared.refusal.Refusal.TheVariants.{BadChain, BadMode, RunOpen, NoRun, NoPreamble, Barred, NoCheck, BadCheckByte, EndsHere, LastDevice, BadStart, BadEnd, BadTables, BadData, TooShort, UsedUp, IllFormed, PastEprom, BadJump, BadLengths, NoHead}

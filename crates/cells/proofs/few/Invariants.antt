@@ -1,11 +1,13 @@
-use Prim.Native.Nat.{◌+◌, ◌≤◌, ◌-◌}
-use mathlib.Core.Path.{◌≡◌}
-use lib.ListN.{drop}
+use Rattle.std.proofs.Common.{◌≡◌, ◌≤◌, ◌+◌, length}
 use Rattle.cells.specs.Differ.{differs}
 use Rattle.cells.proofs.few.Given as goal
 
-abbrev pub invariant-loop-i : goal.invariant-loop-i
-invariant-loop-i l = (l.i ≤ l.n) × (l.count ≤ l.i) × (l.count + differs (drop l.i l.a) (drop l.i l.b) ≡ differs l.a l.b)
-
-abbrev pub decreases-loop-i : goal.decreases-loop-i
-decreases-loop-i l = l.n - l.i
+abbrev pub invariant-loop-x : goal.invariant-loop-x
+invariant-loop-x l =
+    let a = l.x-iterator.a.rest.now in
+    let b = l.x-iterator.b.rest.now in
+    record {
+      even : length a ≡ length b;
+      few : l.count + length b ≤ length l.b;
+      counted : l.count + differs a b ≡ differs l.a l.b;
+    }

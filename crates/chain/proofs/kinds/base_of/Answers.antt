@@ -1,4 +1,4 @@
-use Rattle.std.proofs.Common.{rules, ◌≡◌, ◌≤◌, ◌<◌, refl, length, arith, take, min, add-one}
+use Rattle.std.proofs.Common.{rules, ◌≡◌, refl, length, take, min, add-one}
 use Rattle.chain.specs.Kinds.{base_of}
 use Rattle.chain.proofs.Base.{base_suc, base_front}
 use Rattle.chain.proofs.kinds.base_of.Goals as goal

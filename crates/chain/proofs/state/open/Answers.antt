@@ -3,7 +3,7 @@ use borrow.Author.Tests.{eq-eqb, ne_eqb}
 use Rattle.std.proofs.Common.{rules, ap}
 use Rattle.chain.specs.Paper.{no_run, done, closed}
 use Rattle.chain.specs.Rules.{pick}
-use Rattle.chain.specs.State.{state_number, open_number}
+use Rattle.chain.specs.State.{state_number}
 use Rattle.chain.proofs.Numbers.{open_of_state}
 use Rattle.chain.proofs.PassedUp.{passed_up, gone_on}
 use Rattle.chain.proofs.state.open.Goals as goal

@@ -1,9 +1,0 @@
-use borrow.Author.Rules.{rules}
-use borrow.Author.Tests.{eq-eqb, ne_eqb}
-use Rattle.cells.proofs.unlike.Goals as goal
-
-pub returns-then-a-b : goal.returns-then-a-b
-returns-then-a-b c = (simp (eq-eqb _ _ c.if-a-b.true), search rules)
-
-pub returns-else-a-b : goal.returns-else-a-b
-returns-else-a-b c = (simp (ne_eqb _ _ c.if-a-b.false), search rules)
