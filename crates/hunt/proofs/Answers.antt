@@ -1,7 +1,8 @@
 -- The hunt's three ways to answer: no position, an output too short, the bytes written. Assumes nothing.
 use mathlib.Core.Path.{◌≡◌, refl, sym, ap, ap₂, ◌∙◌}
 use mathlib.Core.List.{List}
-use Prim.Native.Nat.{ℕ, ◌+◌, ◌-◌, ◌*◌, ◌/◌, ◌<◌, ◌≤◌}
+use mathlib.Core.Logic.{◌⊎◌, ⊎_elim}
+use Prim.Native.Nat.{ℕ, ◌+◌, ◌-◌, ◌*◌, ◌/◌, ◌%◌, ◌<◌, ◌≤◌}
 use native.Mathlib.Omega.{arith}
 use borrow.Author.Tests.{eq-eqb, ne_eqb, eqb-false, lt-ltb, le-ltb}
 use lib.Dec.{eqb, ltb}
@@ -12,10 +13,11 @@ use Rattle.chain.specs.Paper.{done, no_preamble, too_short}
 use Rattle.chain.specs.Rules.{pick}
 use Rattle.chain.specs.Output.{over}
 use Rattle.chain.proofs.ByCases.{by_test}
-use Rattle.hunt.specs.Bits.{bytes_from, whole_from, left_from}
+use Rattle.hunt.specs.declared.Bit.{Bit}
+use Rattle.hunt.specs.Bits.{bytes_from, whole_from, left_from, index_of}
 use Rattle.hunt.specs.Hunt.{nowhere, found_at, hunted_bytes, hunt_number, hunt_of, hunt_out, Hunt}
 use Rattle.hunt.proofs.Found.{found_le, found_fits}
-use Rattle.hunt.proofs.Bytes.{length-bytes, whole_is}
+use Rattle.hunt.proofs.Bytes.{length-bytes, whole_is, left_is}
 
 -- the bytes and their number, from the position and the count that the code has
 pub hunted-from : (s : List ℕ) (p : ℕ) → p ≡ found_at s → hunted_bytes s ≡ bytes_from s p (length s - (p + 7) / 8)
@@ -79,13 +81,19 @@ module _ (s out : List ℕ) (p : ℕ) (e : p ≡ found_at s) (h : p < nowhere) w
       let short : length out < length (hunted_bytes s) = omega (arith, hunted-count s p e) in
       refused s out too_short (number-found s out (omega arith) ∙ rw (lt-ltb (length out) (length (hunted_bytes s)) short)) (omega arith)
 
-  pub hunt-written : (out' : List ℕ) (q left : ℕ) → length s - (p + 7) / 8 ≤ length out → q ≡ p → left ≡ left_from s p
-      → out' ≡ sets out 0 (bytes_from s p (length s - (p + 7) / 8))
-      → Hunt s out (record { number = done; p = q; left = left; length = length s - (p + 7) / 8 }) out'
-  hunt-written out' q left l f g w =
+  -- m bytes from the bit at on: as many as there are, since there is room for them
+  pub hunt-written : (out' : List ℕ) (m : ℕ) (at : Bit) → index_of at ≡ p → length s - (p + 7) / 8 ≤ length out
+      → (m ≤ length out) × (m ≤ whole_from s (index_of at)) × ((m ≡ length out) ⊎ (m ≡ whole_from s (index_of at)))
+      → out' ≡ sets out 0 (bytes_from s (index_of at) m)
+      → Hunt s out (record { number = done; p = p; left = (8 - p % 8) % 8; length = length s - (p + 7) / 8 }) out'
+  hunt-written out' m at g l b w =
+      let whole : whole_from s (index_of at) ≡ length s - (p + 7) / 8 = ap (whole_from s) g ∙ sym (whole_is s p) in
       let n : length s - (p + 7) / 8 ≡ length (hunted_bytes s) = sym (hunted-count s p e) in
+      let all : m ≡ length s - (p + 7) / 8 = ⊎_elim (λ full. omega arith) (λ all. omega arith) b.2 in
+      let left : (8 - p % 8) % 8 ≡ left_from s p = left_is s p (found_in s p e h) in
+      let bytes : bytes_from s (index_of at) m ≡ hunted_bytes s = ap₂ (bytes_from s) g all ∙ sym (hunted-from s p e) in
       let r = written s out (omega arith) (omega arith) in
       record {
-        answer = rw (f, g, n, e) r.answer;
-        output = w ∙ ap (sets out 0) (sym (hunted-from s p e)) ∙ sets-front (hunted_bytes s) out (omega arith) ∙ r.output;
+        answer = rw (left, n, e) r.answer;
+        output = w ∙ ap (sets out 0) bytes ∙ sets-front (hunted_bytes s) out (omega arith) ∙ r.output;
       }

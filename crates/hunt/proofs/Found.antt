@@ -2,7 +2,9 @@
 use mathlib.Core.Path.{◌≡◌, refl, sym, ap, ◌∙◌}
 use mathlib.Core.Bool.{Bool, true, false, ◌&&◌, and-false}
 use mathlib.Core.List.{List}
-use mathlib.Core.Logic.{⊎_elim}
+use mathlib.Core.Logic.{◌⊎◌, inl, inr, ⊎_elim}
+use Rattle.std.specs.Prelude.{Option, Some, None, MatchOption}
+use Rattle.std.specs.Option.{unwrap_or}
 use Prim.Native.Nat.{ℕ, zero, suc, ◌+◌, ◌*◌, ◌<◌, ◌≤◌}
 use native.Mathlib.Nat.{eq-or-lt_of_le}
 use native.Mathlib.Omega.{arith}
@@ -106,3 +108,21 @@ module _ (s : List ℕ) where
   -- a position that is found has its eight bits in the slice
   pub found_fits : found_at s < nowhere → found_at s + 8 ≤ 8 * length s
   found_fits h = begins_fits s (found_at s) (found_begins h)
+
+  -- what a search from 0 on finds
+  pub found_by : (r : Option ℕ) → MatchOption r ((k : ℕ) → 0 ≤ k → k < nowhere → begins_at s k ≡ false)
+      (λ i. (0 ≤ i) × (i < nowhere) × (begins_at s i ≡ true) × ((k : ℕ) → 0 ≤ k → k < i → begins_at s k ≡ false))
+      → MatchOption r (found_at s ≡ nowhere) (λ p. (p ≡ found_at s) × (p < nowhere))
+  found_by None none = found_none (λ q l. none q (omega arith) l)
+  found_by (Some i) f = (same (lt-or_ge i (found_at s)) (lt-or_ge (found_at s) i), f.1)
+    where
+      same : (i < found_at s) ⊎ (found_at s ≤ i) → (found_at s < i) ⊎ (i ≤ found_at s) → i ≡ found_at s
+      same (inl l) g = not-both (begins_at s i) f.2 (found_before i l)
+      same (inr l) (inl g) = not-both (begins_at s (found_at s)) (found_begins (omega (arith, f.1))) (f.3 (found_at s) (omega arith) g)
+      same (inr l) (inr g) = omega arith
+
+-- a position in a number, nowhere for none
+pub found_or : (s : List ℕ) (r : Option ℕ) → MatchOption r (found_at s ≡ nowhere) (λ p. (p ≡ found_at s) × (p < nowhere))
+    → (unwrap_or r nowhere ≡ found_at s) × (unwrap_or r nowhere ≤ nowhere)
+found_or s None none = (sym none, omega arith)
+found_or s (Some p) f = (f.0, omega (arith, f.1))

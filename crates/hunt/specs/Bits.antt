@@ -1,5 +1,6 @@
 -- A slice of bytes as single bits, each byte least significant bit first, and the bytes that start at any bit of it. Assumes nothing.
 use Rattle.std.specs.Prelude.{ℕ, zero, suc, ◌+◌, ◌-◌, ◌*◌, ◌/◌, ◌%◌, ◌^◌, List, [], ◌∷◌, get_or, length}
+use Rattle.hunt.specs.declared.Bit.{Bit}
 
 -- bit i of a slice is bit i % 8 of its byte i / 8
 unfoldable pub bit_at : List ℕ → ℕ → ℕ
@@ -26,3 +27,7 @@ whole_from s p = (8 * length s - p) / 8
 -- and how many bits are left after the last of them
 unfoldable pub left_from : List ℕ → ℕ → ℕ
 left_from s p = (8 * length s - p) % 8
+
+-- where a bit stands that is told by its byte and its place in it, modulo 8
+abbrev pub index_of : Bit → ℕ
+index_of at = 8 * at.byte + at.bit % 8

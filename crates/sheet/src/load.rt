@@ -8,7 +8,7 @@ ghost use Rattle.sheet.specs.Steps.{bytes_after};
 
 use chain::Chain;
 use chain::paper::*;
-use hunt::piece;
+use hunt::{Bit, piece};
 use machine::{Answer, Fed, taken};
 
 // Piece by piece, from bit k of byte q on, k not 0.
@@ -21,7 +21,7 @@ fn load_pieces(c: Chain, mem: &mut [u8], s: &[u8], q: usize, k: u8, room: &mut [
     let mut d = c;
     let mut at = q;
     while at < n {
-        let m = piece(s, at, k, room);
+        let m = piece(s, Bit { byte: at, bit: k }, room);
         let f = taken(d, mem, &room[..m]);
         if f.answer.number != MORE {
             return f;

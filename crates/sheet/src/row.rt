@@ -43,7 +43,7 @@ fn position(mode: u8, s: &[u8]) -> usize
     ensures { (result ≡ shift_of mode s.now) × (result ≤ nowhere) }
 {
     if is_serial(mode) {
-        return find(s);
+        return find(s).unwrap_or(NOWHERE);
     }
     0
 }

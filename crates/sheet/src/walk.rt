@@ -12,7 +12,7 @@ use cells::least;
 use chain::Chain;
 use chain::paper::*;
 use chain::window::{fits, pair, width};
-use hunt::byte_at;
+use hunt::{Bit, byte_at};
 use machine::{ahead, past_data, past_header};
 
 // Stores so far: how many, none below the cell low and none from the cell top on; in order while no cell is stored into again.
@@ -76,7 +76,7 @@ fn bound(s: &[u8], i: usize, k: u8) -> u16
     requires { (k < 8) × (i + 1 < length s.now) }
     ensures { result ≡ byte_at s.now (8 * i + k) * 256 + byte_at s.now (8 * (i + 1) + k) }
 {
-    pair(byte_at(s, i, k), byte_at(s, i + 1, k))
+    pair(byte_at(s, Bit { byte: i, bit: k }), byte_at(s, Bit { byte: i + 1, bit: k }))
 }
 
 // Whether a window's null byte is awaited, and it is there with a start and an end that the device has.
@@ -126,7 +126,7 @@ pub fn walk(c: Chain, s: &[u8], p: usize, marks: &mut [u8], marking: bool) -> Wa
                 d = past_header(d, bound(s, i + 1, k), bound(s, i + 3, k));
                 at += 5;
             } else {
-                let a = ahead(d, byte_at(s, q + at, k));
+                let a = ahead(d, byte_at(s, Bit { byte: q + at, bit: k }));
                 if a.number != MORE {
                     return ended(w);
                 }

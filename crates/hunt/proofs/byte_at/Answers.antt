@@ -1,28 +1,19 @@
-use Prim.Native.Nat.{◌+◌, ◌*◌, ◌%◌}
-use mathlib.Core.Path.{◌≡◌, sym, ap, ◌∙◌}
-use native.Mathlib.Nat.{mod-lt}
-use native.Mathlib.Omega.{arith}
-use lib.Dec.{lit<}
-use Rattle.hunt.specs.Bits.{byte_at}
-use Rattle.hunt.proofs.Windows.{byte_pair, byte-whole, byte_past, byte_last}
+use Rattle.std.proofs.Common.{◌≡◌, sym, ◌∙◌, ◌+◌, ◌%◌, ◌≤◌, length, get_or, arith}
+use Rattle.std.proofs.lemmas.Grind.{common_steps}
+use Rattle.hunt.proofs.Windows.{byte_joined, byte_past}
 use Rattle.hunt.proofs.byte_at.Goals as goal
 
--- `hunt::byte_at` meets its contract. Assumes nothing.
-pub returns-then-n-q : goal.returns-then-n-q
-returns-then-n-q c = sym (byte_past c.args.s.now c.args.q (c.args.k % 8) c.if-n-q.true (mod-lt c.args.k (lit< tt)))
-
-pub returns-then-j-eq0 : goal.returns-then-j-eq0
-returns-then-j-eq0 c =
+pub returns-in_default : goal.returns-in_default
+returns-in_default c =
     let a = c.args in
-    let e : 8 * a.q + a.k % 8 ≡ 8 * a.q = omega arith in
-    sym (ap (byte_at a.s.now) e ∙ byte-whole a.s.now a.q (c.type_inv.s a.q).fits)
-
-pub returns-then-n-q-eq1 : goal.returns-then-n-q-eq1
-returns-then-n-q-eq1 c =
-    let a = c.args in
-    c.joined.ensures ∙ sym (byte_last a.s.now a.q (a.k % 8) (c.type_inv.s a.q).fits (omega arith) (mod-lt a.k (lit< tt)))
+    let past : length a.s.now ≤ a.at.byte = grind (arith, common_steps) in
+    sym (byte_past a.s.now a.at.byte (a.at.bit % 8) past (omega arith))
 
 pub returns : goal.returns
 returns c =
     let a = c.args in
-    c.joined-2.ensures ∙ sym (byte_pair a.s.now a.q (c.type_inv.s a.q).fits (a.k % 8) (mod-lt a.k (lit< tt)))
+    let s = a.s.now in
+    let q = a.at.byte in
+    let low : c.in-Some.field-0.now ≡ get_or s q 0 = grind (arith, common_steps) in
+    let high : c.unwrap_or-high.result ≡ get_or s (q + 1) 0 = grind (arith, common_steps) in
+    c.joined.ensures ∙ byte_joined s q (a.at.bit % 8) _ _ (c.type_inv.s q).fits (omega arith) low high

@@ -1,36 +1,29 @@
-use mathlib.Core.Path.{refl}
-use native.Mathlib.Omega.{arith}
+use Rattle.std.proofs.Common.{◌≡◌, refl, sym, ap, ◌∙◌, rules, arith, ◌<◌}
+use Rattle.hunt.specs.Hunt.{nowhere, found_at}
 use Rattle.hunt.proofs.Bytes.{left_is}
 use Rattle.hunt.proofs.Answers.{found_in, hunt-none, hunt-short, hunt-written}
 use Rattle.hunt.proofs.hunt.Goals as goal
 
 -- `hunt::hunt` meets its contract: a law for each of its three ways to answer. Assumes nothing.
-pub returns-then-p-ge-NOWHERE : goal.returns-then-p-ge-NOWHERE
-returns-then-p-ge-NOWHERE c =
+pub returns-in_default : goal.returns-in_default
+returns-in_default c =
     let a = c.args in
-    let f = c.find-p in
-    hunt-none a.s.now a.out.now f.result f.ensures.0 (omega arith) (omega arith)
+    let none : found_at a.s.now ≡ nowhere = search rules in
+    rw c.refused.ensures (hunt-none a.s.now a.out.now nowhere (sym none) (omega arith) (omega arith))
 
 pub overflow_sub-n : goal.overflow_sub-n
 overflow_sub-n c =
-    let f = c.find-p in
-    omega (arith, found_in c.args.s.now f.result f.ensures.0 (omega arith))
+    let f = c.in-Some.ensures in
+    omega (arith, found_in c.args.s.now c.in-Some.p f.0 f.1)
 
 pub returns-then-out-n : goal.returns-then-out-n
 returns-then-out-n c =
     let a = c.args in
-    let f = c.find-p in
-    hunt-short a.s.now a.out.now f.result f.ensures.0 (omega arith) (omega arith)
-
-pub fill-requires : goal.fill-requires
-fill-requires c =
-    let f = c.find-p in
-    let fits = found_in c.args.s.now f.result f.ensures.0 (omega arith) in
-    (omega arith, omega arith, omega arith)
+    let f = c.in-Some.ensures in
+    rw c.refused-then-out-n.ensures (hunt-short a.s.now a.out.now c.in-Some.p f.0 f.1 (omega arith))
 
 pub returns : goal.returns
 returns c =
     let a = c.args in
-    let f = c.find-p in
-    let left = left_is a.s.now f.result (found_in a.s.now f.result f.ensures.0 (omega arith)) in
-    hunt-written a.s.now a.out.now f.result f.ensures.0 (omega arith) _ _ _ (omega arith) refl left c.fill.ensures
+    let f = c.in-Some.ensures in
+    hunt-written a.s.now a.out.now c.in-Some.p f.0 f.1 c.piece.new.out c.piece.result c.of.result c.of.ensures c.if-out-n.false c.piece.ensures.upper_bound c.piece.ensures.out_after

@@ -1,38 +1,41 @@
-use Prim.Native.Nat.{ℕ, ◌+◌, ◌-◌, ◌*◌, ◌%◌}
-use mathlib.Core.Logic.{◌⊎◌, inl, inr}
-use mathlib.Core.Path.{◌≡◌, refl, sym, ap, ◌∙◌}
-use native.Mathlib.Omega.{arith}
-use lib.ListN.{length, take, drop}
-use lib.Seq.{sets}
-use Rattle.hunt.specs.Bits.{bytes_from, whole_from}
-use Rattle.hunt.proofs.Bytes.{bytes_part, whole_is}
+use Rattle.std.proofs.Common.{◌≡◌, ℕ, refl, sym, ap, ◌∙◌, ◌*◌, ◌-◌, inr, length, take, drop, min, ◌%◌, ◌+◌, rules, arith}
+use Rattle.std.proofs.lemmas.List.{take_rest, length-drop}
+use Rattle.std.proofs.lemmas.List.Edits.{sets}
+use Rattle.hunt.specs.Bits.{bytes_from, whole_from, index_of}
+use Rattle.hunt.proofs.Bytes.{bytes_part, bytes-drop, whole_is, lesser_of}
 use Rattle.hunt.proofs.piece.Goals as goal
 
--- `hunt::piece` meets its contract. Assumes nothing.
-⊎_swap : {w r h o : ℕ} → w ≡ h → (r ≡ h) ⊎ (r ≡ o) → (r ≡ o) ⊎ (r ≡ w)
-⊎_swap e (inl x) = inr (x ∙ sym e)
-⊎_swap e (inr x) = inl x
-
-pub returns-then-s-q : goal.returns-then-s-q
+pub returns-then-s-at : goal.returns-then-s-at
 unfolding bytes_from whole_from
-returns-then-s-q c = record { upper_bound = (omega arith, omega arith, inr (omega arith)); out_after = refl }
+returns-then-s-at c = record { upper_bound = (omega arith, omega arith, inr (omega arith)); out_after = refl }
 
-pub returns-then-j-eq0 : goal.returns-then-j-eq0
-returns-then-j-eq0 c =
+pub returns-then-at-eq0-clause-upper_bound : goal.returns-then-at-eq0-clause-upper_bound
+returns-then-at-eq0-clause-upper_bound c =
     let a = c.args in
     let s = a.s.now in
-    let n = c.least-n.result in
-    let l = c.least-n.ensures in
-    let w : whole_from s (8 * a.q + a.k % 8) ≡ length s - a.q = sym (whole_is s (8 * a.q + a.k % 8)) ∙ omega arith in
-    let e : 8 * a.q + a.k % 8 ≡ 8 * a.q = omega arith in
-    let z : a.q + n - a.q ≡ n = omega arith in
-    record { upper_bound = (l.1, omega arith, ⊎_swap w l.2); out_after = c.copy.ensures ∙ ap (sets a.out.now 0) (ap (λ (x : ℕ). take x (drop a.q s)) z ∙ sym (ap (λ (x : ℕ). bytes_from s x n) e ∙ bytes_part s (λ i. (c.type_inv.s i).fits) n a.q (omega arith))) }
+    let e : c.min-n.result ≡ min (length s - a.at.byte) (length a.out.now) = search rules in
+    lesser_of _ _ _ (whole_from s (index_of a.at)) e (sym (whole_is s (index_of a.at)) ∙ omega arith)
 
-pub returns : goal.returns
-returns c =
+pub returns-then-at-eq0-clause-out_after : goal.returns-then-at-eq0-clause-out_after
+returns-then-at-eq0-clause-out_after c =
     let a = c.args in
     let s = a.s.now in
-    let n = c.least-n-2.result in
-    let l = c.least-n-2.ensures in
-    let w : whole_from s (8 * a.q + a.k % 8) ≡ length s - a.q - 1 = sym (whole_is s (8 * a.q + a.k % 8)) ∙ omega arith in
-    record { upper_bound = (l.1, omega arith, ⊎_swap w l.2); out_after = c.shift.ensures }
+    let n = c.min-n.result in
+    let e : n ≡ min (length s - a.at.byte) (length a.out.now) = search rules in
+    let at : 8 * a.at.byte ≡ index_of a.at = omega arith in
+    let front : take n (take (length s - a.at.byte) (drop a.at.byte s)) ≡ bytes_from s (index_of a.at) n =
+    rw take_rest (sym (bytes_part s (λ i. (c.type_inv.s i).fits) n a.at.byte (omega arith)) ∙ ap (λ (p : ℕ). bytes_from s p n) at) in
+    c.copy.ensures ∙ ap (sets a.out.now 0) front
+
+pub returns-clause-upper_bound : goal.returns-clause-upper_bound
+returns-clause-upper_bound c =
+    let a = c.args in
+    let s = a.s.now in
+    let e : c.min-n-2.result ≡ min (length s - a.at.byte - 1) (length a.out.now) = search rules in
+    lesser_of _ _ _ (whole_from s (index_of a.at)) e (sym (whole_is s (index_of a.at)) ∙ omega arith)
+
+pub returns-clause-out_after : goal.returns-clause-out_after
+returns-clause-out_after c =
+    let a = c.args in
+    let s = a.s.now in
+    rw take_rest at c.shift.ensures ∙ ap (sets a.out.now 0) (bytes-drop s a.at.byte c.min-n-2.result (a.at.bit % 8))
