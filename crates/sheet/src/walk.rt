@@ -76,7 +76,16 @@ fn bound(s: &[u8], i: usize, k: u8) -> u16
     requires { (k < 8) × (i + 1 < length s.now) }
     ensures { result ≡ byte_at s.now (8 * i + k) * 256 + byte_at s.now (8 * (i + 1) + k) }
 {
-    pair(byte_at(s, Bit { byte: i, bit: k }), byte_at(s, Bit { byte: i + 1, bit: k }))
+    pair(
+        byte_at(s, Bit { byte: i, bit: k }),
+        byte_at(
+            s,
+            Bit {
+                byte: i + 1,
+                bit: k,
+            },
+        ),
+    )
 }
 
 // Whether a window's null byte is awaited, and it is there with a start and an end that the device has.
@@ -126,7 +135,16 @@ pub fn walk(c: Chain, s: &[u8], p: usize, marks: &mut [u8], marking: bool) -> Wa
                 d = past_header(d, bound(s, i + 1, k), bound(s, i + 3, k));
                 at += 5;
             } else {
-                let a = ahead(d, byte_at(s, Bit { byte: q + at, bit: k }));
+                let a = ahead(
+                    d,
+                    byte_at(
+                        s,
+                        Bit {
+                            byte: q + at,
+                            bit: k,
+                        },
+                    ),
+                );
                 if a.number != MORE {
                     return ended(w);
                 }

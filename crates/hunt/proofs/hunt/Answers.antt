@@ -1,6 +1,5 @@
-use Rattle.std.proofs.Common.{◌≡◌, refl, sym, ap, ◌∙◌, rules, arith, ◌<◌}
+use Rattle.std.proofs.Common.{◌≡◌, sym, rules, arith}
 use Rattle.hunt.specs.Hunt.{nowhere, found_at}
-use Rattle.hunt.proofs.Bytes.{left_is}
 use Rattle.hunt.proofs.Answers.{found_in, hunt-none, hunt-short, hunt-written}
 use Rattle.hunt.proofs.hunt.Goals as goal
 

@@ -1,5 +1,4 @@
-use Rattle.std.proofs.Common.{◌≡◌, ap, ◌∙◌, ℕ, ◌+◌, ◌*◌, ◌-◌, ◌%◌, ◌/◌, ◌^◌, bit_or, arith}
-use Rattle.std.proofs.lemmas.Nat.{mul-mod_first}
+use Rattle.std.proofs.Common.{ap, ◌∙◌, ◌-◌, ◌%◌, ◌/◌, ◌^◌, bit_or, arith}
 use Rattle.hunt.proofs.Windows.{joined_is, twice_shifted}
 use Rattle.hunt.proofs.joined.Goals as goal
 

@@ -1,5 +1,5 @@
-use Rattle.std.proofs.Common.{◌≡◌, ℕ, refl, sym, ap, ◌∙◌, ◌*◌, ◌-◌, inr, length, take, drop, min, ◌%◌, ◌+◌, rules, arith}
-use Rattle.std.proofs.lemmas.List.{take_rest, length-drop}
+use Rattle.std.proofs.Common.{◌≡◌, ℕ, refl, sym, ap, ◌∙◌, ◌*◌, ◌-◌, inr, length, take, drop, min, ◌%◌, rules, arith}
+use Rattle.std.proofs.lemmas.List.{take_rest}
 use Rattle.std.proofs.lemmas.List.Edits.{sets}
 use Rattle.hunt.specs.Bits.{bytes_from, whole_from, index_of}
 use Rattle.hunt.proofs.Bytes.{bytes_part, bytes-drop, whole_is, lesser_of}

@@ -1,11 +1,8 @@
 use borrow.Author.Rules.{rules}
 use mathlib.Core.Bool.{Bool}
-use mathlib.Core.Path.{ap, sym, ◌∙◌, ◌≡◌}
-use Prim.Native.Nat.{◌≤◌}
-use Rattle.std.proofs.lemmas.Grind.{common_steps}
-use native.Mathlib.Omega.{arith}
+use mathlib.Core.Path.{ap, sym, ◌∙◌}
 use Rattle.chain.specs.Rules.{pick}
-use Rattle.hunt.specs.Hunt.{found_at, nowhere}
+use Rattle.hunt.specs.Hunt.{found_at}
 use Rattle.hunt.proofs.Found.{found_or}
 use Rattle.sheet.proofs.row.position.Goals as goal
 
