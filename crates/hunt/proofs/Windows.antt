@@ -7,7 +7,6 @@ use native.Mathlib.Nat.{add-zero, add_comm, add_assoc, mul_assoc, mul_comm, mod-
 use native.Mathlib.Numerals.{one-add}
 use native.Mathlib.Omega.{arith}
 use lib.Dec.{lit<}
-use Rattle.std.proofs.lemmas.Nat.{mul-mod_first}
 use lib.ListN.{length, get_or, get_or-eq_default}
 use lib.Pow.{pow_pos, pow-add, mod-pow-add, mod-mod-pow, field, high, low, shr_lt, shr-shr, shl-shr}
 use lib.Bits.{bit_and, bit_or, and_mask, mask_lt, or_shifted_r}
@@ -140,10 +139,3 @@ pub joined_is : (hi lo k j : ℕ) → k + j ≡ 8 → lo < 2 ^ 8 → bit_or (lo 
 joined_is hi lo k j e h =
     subst (λ (w : ℕ). bit_or (lo / 2 ^ k) (hi * 2 ^ j % 2 ^ w) ≡ (hi * 2 ^ 8 + lo) / 2 ^ k % 2 ^ w) e
     (subst (λ (w : ℕ). lo < 2 ^ w → bit_or (lo / 2 ^ k) (hi * 2 ^ j % 2 ^ (k + j)) ≡ (hi * 2 ^ w + lo) / 2 ^ k % 2 ^ (k + j)) (add_comm j k ∙ e) (two_shifts hi lo k j) h)
-
--- hi << 1 << (7 - k), at bytes
-pub twice_shifted : (hi k : ℕ) → k ≤ 7 → hi * 2 % 256 * 2 ^ (7 - k) % 256 ≡ hi * 2 ^ (8 - k) % 2 ^ 8
-twice_shifted hi k h =
-    let e : 1 + (7 - k) ≡ 8 - k = omega arith in
-    mul-mod_first (hi * 2) (2 ^ (7 - k)) 256
-    ∙ ap (λ (x : ℕ). x % 256) (mul_assoc hi 2 (2 ^ (7 - k)) ∙ ap (λ (x : ℕ). hi * x) (sym (pow-add 2 1 (7 - k)) ∙ ap (λ (n : ℕ). 2 ^ n) e))

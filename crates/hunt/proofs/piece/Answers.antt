@@ -9,15 +9,15 @@ pub returns-then-s-at : goal.returns-then-s-at
 unfolding bytes_from whole_from
 returns-then-s-at c = record { upper_bound = (omega arith, omega arith, inr (omega arith)); out_after = refl }
 
-pub returns-then-at-eq0-clause-upper_bound : goal.returns-then-at-eq0-clause-upper_bound
-returns-then-at-eq0-clause-upper_bound c =
+pub returns-then-k-eq0-clause-upper_bound : goal.returns-then-k-eq0-clause-upper_bound
+returns-then-k-eq0-clause-upper_bound c =
     let a = c.args in
     let s = a.s.now in
     let e : c.min-n.result ≡ min (length s - a.at.byte) (length a.out.now) = search rules in
     lesser_of _ _ _ (whole_from s (index_of a.at)) e (sym (whole_is s (index_of a.at)) ∙ omega arith)
 
-pub returns-then-at-eq0-clause-out_after : goal.returns-then-at-eq0-clause-out_after
-returns-then-at-eq0-clause-out_after c =
+pub returns-then-k-eq0-clause-out_after : goal.returns-then-k-eq0-clause-out_after
+returns-then-k-eq0-clause-out_after c =
     let a = c.args in
     let s = a.s.now in
     let n = c.min-n.result in

@@ -7,11 +7,11 @@ pub loop-i-preserved : goal.loop-i-preserved
 loop-i-preserved c =
     let l = c.loop-i in
     let s = c.args.s.now in
-    let k = c.args.k % 8 in
+    let k = c.args.k in
     let e = c.joined.ensures ∙ sym (byte_pair s l.i (c.type_inv.s l.i).fits k (omega arith)) in
     l.invariant ∙ bytes_turn s l.out k c.args.n l.i c.joined.result (omega arith) e
 
 pub returns : goal.returns
 returns c =
     let l = c.loop-i in
-    sym (l.invariant ∙ bytes-done c.args.s.now l.out (8 * l.i + c.args.k % 8) c.args.n l.i (omega arith))
+    sym (l.invariant ∙ bytes-done c.args.s.now l.out (8 * l.i + c.args.k) c.args.n l.i (omega arith))
