@@ -1,4 +1,4 @@
-use Rattle.std.proofs.Common.{sym, ◌∙◌, ◌+◌, ◌*◌, ◌%◌, arith}
+use Rattle.std.proofs.Common.{sym, ◌∙◌, ◌+◌, ◌*◌, arith}
 use Rattle.hunt.proofs.Windows.{byte_pair}
 use Rattle.hunt.proofs.Bytes.{bytes_turn, bytes-done}
 use Rattle.hunt.proofs.shift.Goals as goal
