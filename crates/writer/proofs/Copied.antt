@@ -7,9 +7,9 @@ use native.Mathlib.Omega.{arith}
 use borrow.Author.Tests.{ltb-false}
 use lib.Dec.{ltb}
 use lib.ListN.{length, take, drop, length-drop, drop_of_length-le}
-use lib.Seq.{sets, take-take, take-add, take-append-le, drop-append-add, drop-drop, length-take-le}
+use lib.Seq.{take-length, sets, take-take, take-add, take-append-le, drop-append-add, drop-drop, length-take-le}
 use Rattle.chain.specs.Output.{over}
-use Rattle.chain.proofs.Over.{copied}
+use Rattle.chain.proofs.Over.{copied, over_is}
 use Rattle.writer.proofs.Accepted.{both_false}
 
 -- over all of o
@@ -55,3 +55,14 @@ block_more s o x i at h g l m n e =
     ap (drop (at + 16)) x_is ∙ ap (λ (k : ℕ). drop k (take i s ++ drop i o)) (sym past) ∙ drop-append-add (take i s) (drop i o) (at + 16 - i)
     ∙ drop-drop (at + 16 - i) i o ∙ ap (λ (k : ℕ). drop k o) back in
     rw (front, lw, drop-drop 16 at x, rest, la, take-add at 16 s) (sym (append_assoc (take at s) (take 16 (drop at s)) (drop (at + 16) o)))
+
+-- the last block ends where the data ends; i bytes or more were there before it
+pub blocks-end : (s o x y : List ℕ) (i : ℕ) → 16 ≤ length s → length s - 16 ≤ i → i ≤ length s → length s ≤ length o → x ≡ over (take i s) o
+    → y ≡ take (length s - 16) x ++ over (take 16 (drop (length s - 16) s)) (drop (length s - 16) x)
+    → y ≡ over s o
+blocks-end s o x y i h g l m e f =
+    let all : length s - 16 + 16 ≡ length s = omega arith in
+    f
+    ∙ block_more s o x i (length s - 16) g (omega arith) (omega arith) m l e
+    ∙ ap (λ (n : ℕ). over (take n s) o) all
+    ∙ over_is (take (length s) s) s o (take-length s)

@@ -4,6 +4,7 @@ pub mod Parts
 pub mod Accepted
 pub mod Copied
 pub mod TablesFit
+pub mod Refused
 pub mod Answers
 pub mod Only
 pub mod First

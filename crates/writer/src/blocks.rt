@@ -31,10 +31,8 @@ pub(crate) fn copy_blocks(cells: &[u8], out: &mut [u8])
         return;
     }
     let last = n - BLOCK;
-    let mut i: usize = 0;
-    while i < last {
+    for i in (0..last).step_by(BLOCK) {
         copy_block(cells, i, out);
-        i += BLOCK;
     }
     copy_block(cells, last, out);
 }

@@ -3,12 +3,48 @@
 
 mod blocks;
 mod put;
-mod refusal;
+mod tables;
 
-ghost use Rattle.writer.specs.Write.{Write};
+ghost use Rattle.std.specs.Prelude.{◌≡◌, ◌+◌, ◌*◌, length, IfOk, OnOk, OnErr};
+ghost use Rattle.chain.specs.Refusal.{answered};
+ghost use Rattle.writer.specs.Stream.{lead_in, stream_of};
+ghost use Rattle.writer.specs.Write.{Write, number_of, sum_of};
+ghost use Rattle.chain.specs.Output.{over};
 
 use chain::Written;
-use chain::paper::*;
+use chain::kinds::Kind;
+use chain::mode::Mode;
+use chain::refusal::Refusal;
+use put::lead_in;
+use tables::Tables;
+
+// The same with the refusal itself.
+fn try_write(
+    kind: u8,
+    mode: u8,
+    control: u8,
+    address: [u8; 3],
+    starts: &[u16],
+    ends: &[u16],
+    cells: &[u8],
+    out: &mut [u8],
+) -> Result<usize, Refusal>
+    ensures number { answered result ≡ number_of kind mode starts.now ends.now (length cells.now) (length (lead_in mode) + 6 + 5 * length starts.now + sum_of starts.now ends.now) (length out.old) }
+    ensures done { OnOk result (out.new ≡ over (stream_of mode control address starts.now ends.now cells.now) out.old) }
+    ensures length { IfOk result (λ n. n ≡ length (stream_of mode control address starts.now ends.now cells.now)) }
+    ensures refused { OnErr result (out.new ≡ out.old) }
+{
+    let size = Kind::try_from(kind)?.size();
+    let mode = Mode::try_from(mode)?;
+    let tables = Tables::new(starts, ends)?;
+    if cells.len() != tables.sum(size)? {
+        return Err(Refusal::BadData);
+    }
+    if out.len() < lead_in(mode).len() + 6 + 5 * starts.len() + cells.len() {
+        return Err(Refusal::TooShort);
+    }
+    Ok(put::stream(mode, control, address, tables, cells, out))
+}
 
 // Writes the stream of these windows; `cells` is their data, one window's after another's.
 pub fn write(
@@ -23,13 +59,7 @@ pub fn write(
 ) -> Written
     ensures { Write kind mode control address starts.now ends.now cells.now out.old result out.new }
 {
-    let number = refusal::number(kind, mode, starts, ends, cells.len(), out.len());
-    if number != DONE {
-        return Written { number, length: 0 };
-    }
-    let length = put::stream(mode, control, address, starts, ends, cells, out);
-    Written {
-        number: DONE,
-        length,
-    }
+    Written::from(try_write(
+        kind, mode, control, address, starts, ends, cells, out,
+    ))
 }

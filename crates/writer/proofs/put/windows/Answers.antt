@@ -1,38 +1,32 @@
-use borrow.Author.Rules.{rules}
-use mathlib.Core.Path.{refl}
-use native.Mathlib.Omega.{arith}
-use Rattle.writer.proofs.Turn.{room, enough, turn, done}
+use Rattle.std.proofs.Common.{rules}
+use Rattle.writer.proofs.Windows.{used_up}
+use Rattle.writer.proofs.Turn.{enough, turn, done}
 use Rattle.writer.proofs.put.windows.Goals as goal
-
-pub loop-i-init : goal.loop-i-init
-loop-i-init c = (search rules, search rules, refl, omega arith, refl)
 
 pub slice_bounds-window-end : goal.slice_bounds-window-end
 slice_bounds-window-end c =
     let s = c.args in
-    let k = c.loop-i in
-    (enough s.starts.now s.ends.now s.cells.now s.out.now c.requires.0 c.requires.3 k.out k.at k.from k.i c.width.result k.invariant (search rules) c.width.ensures.0).0
+    let k = c.loop-start in
+    (enough s.tables.starts.now s.tables.ends.now s.cells.now s.out.now c.requires.1 k.out k.out _ _ _ _ k.at k.from c.width.result _ _ k.invariant.2 c.in-Some.ensures.steps.0 c.in-Some.ensures.steps.1 c.width.ensures.value).0
 
-pub window-at-requires : goal.window-at-requires
-window-at-requires c =
+pub loop-start-preserved : goal.loop-start-preserved
+loop-start-preserved c =
     let s = c.args in
-    let k = c.loop-i in
-    let e = enough s.starts.now s.ends.now s.cells.now s.out.now c.requires.0 c.requires.3 k.out k.at k.from k.i c.width.result k.invariant (search rules) c.width.ensures.0 in
-    room s.cells.now k.out k.at k.from c.width.result e.0 e.1
+    let k = c.loop-start in
+    (search rules, search rules,
+    turn s.tables.starts.now s.tables.ends.now s.cells.now s.out.now c.requires.1 k.out c.window-at.new.out _ _ _ _ k.at k.from c.width.result _ _ k.invariant.2 c.in-Some.ensures.steps.0 c.in-Some.ensures.steps.1 c.width.ensures.value
+    c.window-at.result c.window-at.ensures.value c.window-at.ensures.out_after)
 
-pub loop-i-preserved : goal.loop-i-preserved
-loop-i-preserved c =
+pub returns-clause-value : goal.returns-clause-value
+returns-clause-value c =
     let s = c.args in
-    let k = c.loop-i in
-    turn s.starts.now s.ends.now s.cells.now s.out.now c.requires.0 c.requires.3 k.out _ k.at k.from k.i c.width.result c.window-at.result k.invariant (search rules) c.width.ensures.0
-    c.window-at.ensures.value c.window-at.ensures.out_after
+    let k = c.loop-start in
+    let h = used_up _ _ k.invariant.2.same c.in-None.ensures.steps in
+    (done s.tables.starts.now s.tables.ends.now s.cells.now s.out.now c.requires.1 k.out _ _ k.at k.from k.invariant.2 h).0
 
-pub shape_of-out : goal.shape_of-out
-shape_of-out c = c.loop-i.invariant.2
-
-pub returns : goal.returns
-returns c =
+pub returns-clause-out_after : goal.returns-clause-out_after
+returns-clause-out_after c =
     let s = c.args in
-    let k = c.loop-i in
-    let both = done s.starts.now s.ends.now s.cells.now s.out.now c.requires.0 c.requires.3 k.out k.at k.from k.i k.invariant (search rules) in
-    record { value = both.0; out_after = both.1 }
+    let k = c.loop-start in
+    let h = used_up _ _ k.invariant.2.same c.in-None.ensures.steps in
+    (done s.tables.starts.now s.tables.ends.now s.cells.now s.out.now c.requires.1 k.out _ _ k.at k.from k.invariant.2 h).1
