@@ -14,8 +14,8 @@ use chain::window::Window;
 
 const NULL: u8 = 0x00;
 
-#[tactic(auto, unfolding(crate::specs::Stream::lead_in))]
 // What comes before the control byte: a preamble, after a null byte in the serial modes, and two of them in mode 6.
+#[tactic(auto, unfolding(crate::specs::Stream::lead_in))]
 pub(crate) fn lead_in(mode: Mode) -> &'static [u8]
     ensures value { result.now ≡ lead_in (mode_number mode) }
     ensures short { length result.now ≤ 2 }
@@ -50,7 +50,7 @@ fn window(window: Window, cells: &[u8], out: &mut [u8]) -> usize
     ensures value { result ≡ 5 + length cells.now }
     ensures out_after { out.new ≡ over (window_bytes window.start window.end cells.now) out.old }
 {
-    copy(out, &window.framing());
+    [out[0], out[1], out[2], out[3], out[4]] = window.framing();
     copy_blocks(cells, &mut out[5..]);
     5 + cells.len()
 }

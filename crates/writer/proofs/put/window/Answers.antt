@@ -1,6 +1,6 @@
 use Rattle.std.proofs.Common.{[], ◌++◌, ◌∙◌, refl, arith}
 use Rattle.chain.specs.Window.{framing_of}
-use Rattle.chain.proofs.Over.{copied, then_over, over_is}
+use Rattle.chain.proofs.Over.{five_stored, then_over, over_is}
 use Rattle.writer.specs.Stream.{window_bytes}
 use Rattle.writer.proofs.Parts.{window_parts}
 use Rattle.writer.proofs.put.window.Goals as goal
@@ -9,7 +9,6 @@ pub returns-clause-out_after : goal.returns-clause-out_after
 returns-clause-out_after c =
     let a = c.args in
     let w = a.window in
-    let f = rw c.framing.ensures at c.copy.ensures in
     then_over 5 (framing_of w.start w.end) a.cells.now a.out.now _ _ refl
-    (f ∙ copied (framing_of w.start w.end) a.out.now (omega arith)) c.copy_blocks.ensures
+    (rw c.framing.ensures (five_stored 0 _ _ _ _ a.out.now (omega arith))) c.copy_blocks.ensures
     ∙ over_is (window_bytes w.start w.end [] ++ a.cells.now) (window_bytes w.start w.end a.cells.now) a.out.now (window_parts w.start w.end a.cells.now)
