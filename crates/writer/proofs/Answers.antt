@@ -1,5 +1,5 @@
 -- A call that writes, by its result: the stream written and its length, or a refusal and nothing written. Assumes nothing.
-use Rattle.std.proofs.Common.{◌≡◌, ℕ, List, length, sym, ◌∙◌, ap, Result, Ok, Err, OnOk, OnErr, IfOk}
+use Rattle.std.proofs.Common.{◌≡◌, ℕ, List, length, ◌∙◌, Result, Ok, Err, OnOk, OnErr, IfOk}
 use Rattle.chain.specs.declared.Written.{Written}
 use Rattle.chain.specs.declared.refusal.Refusal.{Refusal}
 use Rattle.chain.specs.Output.{over, Writes}

@@ -1,25 +1,23 @@
 -- Windows taken from the front of the two tables. Assumes nothing.
-use Prim.Native.Nat.{ℕ, suc, ◌+◌, ◌*◌, ◌≤◌, ◌<◌}
+use Prim.Native.Nat.{ℕ, ◌+◌, ◌*◌}
 use mathlib.Core.Path.{◌≡◌, refl, sym, ap, ◌∙◌}
 use mathlib.Core.List.{List, [], ◌∷◌, ◌++◌}
 use mathlib.Core.Logic.{◌⊎◌, inl, inr}
 use native.Mathlib.Omega.{arith}
-use native.Mathlib.Numerals.{add-one}
-use lib.ListN.{length, take, drop, get_or, length-append, length-drop, drop_of_length-le}
-use lib.Seq.{drop-cons, length-take-le}
+use lib.ListN.{length, take, drop, length-append, length-drop}
+use lib.Seq.{length-take-le}
 use borrow.Author.Tests.{eqb-false}
 use Rattle.chain.specs.declared.refusal.Refusal.{Refusal}
 use Rattle.chain.specs.Refusal.{number_of}
 use Rattle.chain.proofs.ByCases.{by_test}
 use Rattle.chain.proofs.PassedUp.{not_done}
 use Rattle.chain.specs.Paper.{done, bad_start, bad_end}
-use Rattle.chain.specs.Rules.{first_of}
 use Rattle.chain.specs.Window.{width_of, start_outside, end_outside, window_number}
 use Rattle.grammar.specs.Stream.{window_sent, windows_sent}
 use Rattle.grammar.specs.Tables.{window_of, windows_from}
 use Rattle.grammar.proofs.OneReading.{bytes-append, data_bytes}
 use Rattle.writer.specs.Stream.{window_bytes, windows_bytes}
-use Rattle.writer.specs.Write.{window_rules, windows_number, sum_of}
+use Rattle.writer.specs.Write.{windows_number, sum_of}
 
 -- one window more
 pub bytes-more : (s e : ℕ) (ss es d : List ℕ)

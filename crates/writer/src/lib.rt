@@ -59,7 +59,5 @@ pub fn write(
 ) -> Written
     ensures { Write kind mode control address starts.now ends.now cells.now out.old result out.new }
 {
-    Written::from(try_write(
-        kind, mode, control, address, starts, ends, cells, out,
-    ))
+    Written::from(try_write(kind, mode, control, address, starts, ends, cells, out))
 }

@@ -1,8 +1,8 @@
-use Rattle.std.proofs.Common.{rules, ◌≡◌, ℕ, ◌+◌, ◌*◌, List, length, sym, ap, ◌∙◌, arith}
+use Rattle.std.proofs.Common.{rules, ◌≡◌, length, sym, ap, ◌∙◌, arith}
 use Rattle.chain.specs.Kinds.{size_of}
 use Rattle.chain.specs.Refusal.{answered, number_of as refusal_number}
 use Rattle.writer.specs.Stream.{lead_in}
-use Rattle.writer.specs.Write.{windows_number, sum_of}
+use Rattle.writer.specs.Write.{sum_of}
 use Rattle.writer.proofs.Refused.{named, passes, some_size, by_chain, by_mode, by_tables, by_window, by_data, by_room, by_none}
 use Rattle.writer.proofs.try_write.Goals as goal
 

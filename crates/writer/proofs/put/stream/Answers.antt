@@ -2,10 +2,10 @@ use Prim.Native.Nat.{ℕ, ◌+◌}
 use mathlib.Core.Path.{sym, ap, ◌∙◌}
 use mathlib.Core.List.{List, [], ◌∷◌, ◌++◌}
 use native.Mathlib.Omega.{arith}
-use lib.ListN.{length, set, length-set}
+use lib.ListN.{length, set}
 use Rattle.chain.specs.Paper.{postamble}
-use Rattle.writer.specs.Stream.{head_bytes, windows_bytes, stream_of}
-use Rattle.chain.proofs.Over.{then_over, then_byte, length_over, over_is}
+use Rattle.writer.specs.Stream.{head_bytes, windows_bytes}
+use Rattle.chain.proofs.Over.{then_over, then_byte, over_is}
 use Rattle.writer.proofs.Parts.{head_length, stream_parts, parts_length, stream-length}
 use Rattle.chain.specs.Mode.{mode_number}
 use Rattle.writer.proofs.put.stream.Goals as goal

@@ -12,10 +12,12 @@ slice_bounds-window-end c =
 pub loop-start-preserved : goal.loop-start-preserved
 loop-start-preserved c =
     let s = c.args in
-    let k = c.loop-start in
-    (search rules, search rules,
-    turn s.tables.starts.now s.tables.ends.now s.cells.now s.out.now c.requires.1 k.out c.window-at.new.out _ _ _ _ k.at k.from c.width.result _ _ k.invariant.2 c.in-Some.ensures.steps.0 c.in-Some.ensures.steps.1 c.width.ensures.value
-    c.window-at.result c.window-at.ensures.value c.window-at.ensures.out_after)
+    let k = c.loop-start in (
+      search rules,
+      search rules,
+      turn s.tables.starts.now s.tables.ends.now s.cells.now s.out.now c.requires.1 k.out c.window-at.new.out _ _ _ _ k.at k.from c.width.result _ _ k.invariant.2 c.in-Some.ensures.steps.0 c.in-Some.ensures.steps.1 c.width.ensures.value
+          c.window-at.result c.window-at.ensures.value c.window-at.ensures.out_after,
+    )
 
 pub returns-clause-value : goal.returns-clause-value
 returns-clause-value c =
