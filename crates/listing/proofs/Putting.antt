@@ -1,50 +1,42 @@
--- Text put piece after piece, one number more, and one window's line more. Assumes nothing.
-use Prim.Native.Nat.{ℕ, zero, suc, ◌+◌, ◌<◌}
-use mathlib.Core.Path.{◌≡◌, sym, ap, ◌∙◌}
-use mathlib.Core.List.{List, [], ◌∷◌, ◌++◌, append-nil, append_assoc}
-use native.Mathlib.Omega.{arith}
-use lib.ListN.{length, take, drop, get_or, length-append}
-use lib.Seq.{length-sets, drop-cons, drop-length}
-use Rattle.cells.proofs.Over.{sets-append}
-use Rattle.listing.specs.Lines.{letter_W, space, line_feed, decimal_of, numbers_of, line_of, Puts}
+-- One number more on a line, and one window's line more. Assumes nothing.
+use Rattle.std.proofs.Common.{ℕ, ◌+◌, ◌<◌, ◌≤◌, ◌≡◌, ap, List, [], ◌∷◌, ◌++◌, add-one, length, drop, get_or, length-append, append-nil, append_assoc, arith}
+use Rattle.std.proofs.Math.Seq.{drop-cons, drop-length}
+use Rattle.listing.specs.Lines.{letter_W, space, line_feed, decimal_of, numbers_of, line_of}
 use Rattle.listing.specs.Program.{window_lines}
 
--- two pieces, one where the other stops, are one
-pub puts_then : (at : ℕ) (t u o x y : List ℕ) (r q : ℕ) → Puts at t o r x → Puts r u x q y → Puts at (t ++ u) o q y
-puts_then at t u o x y r q p g =
-    record {
-      stops = omega (arith, p.stops, g.stops, length-append t u);
-      leaves = g.leaves ∙ rw (p.stops, p.leaves) (sym (sets-append t u o at));
-    }
-
--- the length of the buffer stays
-pub puts_long : (at : ℕ) (t o x : List ℕ) (r : ℕ) → Puts at t o r x → length x ≡ length o
-puts_long at t o x r p = ap length p.leaves ∙ length-sets o at t
-
 -- number i and those after it
-pub numbers_more : (ns : List ℕ) (i : ℕ) → i < length ns → numbers_of (drop i ns) ≡ (space ∷ decimal_of (get_or ns i 0)) ++ numbers_of (drop (suc i) ns)
+pub numbers_more : (ns : List ℕ) (i : ℕ) → i < length ns → numbers_of (drop i ns) ≡ (space ∷ decimal_of (get_or ns i 0)) ++ numbers_of (drop (i + 1) ns)
 unfolding numbers_of
-numbers_more ns i h = ap numbers_of (drop-cons ns i 0 h)
-
-pub numbers_long : (ns : List ℕ) (i : ℕ) → i < length ns
-    → length (numbers_of (drop i ns)) ≡ suc (length (decimal_of (get_or ns i 0))) + length (numbers_of (drop (suc i) ns))
-numbers_long ns i h = ap length (numbers_more ns i h) ∙ length-append (space ∷ decimal_of (get_or ns i 0)) (numbers_of (drop (suc i) ns))
+numbers_more ns i h = rw add-one (ap numbers_of (drop-cons ns i 0 h))
 
 -- past the last the line feed
 pub numbers_done : (ns : List ℕ) → numbers_of (drop (length ns) ns) ≡ line_feed ∷ []
 unfolding numbers_of
 numbers_done ns = ap numbers_of (drop-length ns)
 
--- the lines of the first i + 1 windows
-pub lines_more : (i n : ℕ) (ss es : List ℕ) → i < length ss → i < length es
-    → window_lines n (take (suc i) ss) (take (suc i) es) ≡ window_lines n (take i ss) (take i es) ++ line_of letter_W ((i + n) ∷ get_or ss i 0 ∷ get_or es i 0 ∷ [])
+-- window i and those after it
+pub windows_more : (n : ℕ) (ss es : List ℕ) (i : ℕ) → i < length ss → i < length es
+    → window_lines n (drop i ss) (drop i es) ≡ line_of letter_W (n ∷ get_or ss i 0 ∷ get_or es i 0 ∷ []) ++ window_lines (n + 1) (drop (i + 1) ss) (drop (i + 1) es)
 unfolding window_lines
-lines_more i n [] es h g = absurd (omega arith)
-lines_more i n (s ∷ ss) [] h g = absurd (omega arith)
-lines_more zero n (s ∷ ss) (e ∷ es) h g =
-    let z : 0 + n ≡ n = omega arith in
-    rw (z, append-nil)
-lines_more (suc i) n (s ∷ ss) (e ∷ es) h g =
-    let z : i + (n + 1) ≡ suc i + n = omega arith in
-    let r = lines_more i (n + 1) ss es (omega arith) (omega arith) in
-    rw (r, z, append_assoc (line_of letter_W (n ∷ s ∷ e ∷ [])))
+windows_more n ss es i h k = rw (drop-cons ss i 0 h, drop-cons es i 0 k, add-one i)
+
+-- past the last none
+pub windows_done : (n : ℕ) (ss es : List ℕ) → window_lines n (drop (length ss) ss) es ≡ []
+unfolding window_lines
+windows_done n ss es = rw (drop-length ss)
+
+-- there is room for the rest of a whole that has room
+pub room_left : (now rest before all : List ℕ) (room : ℕ) → now ++ rest ≡ before ++ all → length before + length all ≤ room → length now + length rest ≤ room
+room_left now rest before all room e h = omega (arith, simp length-append at (ap length e), h)
+
+-- one window's line more
+pub line_more : (n start end : ℕ) (starts ends now new whole : List ℕ) → new ≡ now ++ line_of letter_W (n ∷ start ∷ end ∷ [])
+    → now ++ window_lines n (start ∷ starts) (end ∷ ends) ≡ whole → new ++ window_lines (n + 1) starts ends ≡ whole
+unfolding window_lines
+line_more n start end starts ends now new whole e h = rw (e, append_assoc now) h
+
+-- and none
+pub lines_end : (n : ℕ) (starts ends now whole : List ℕ) → length starts ≡ 0 → now ++ window_lines n starts ends ≡ whole → now ≡ whole
+unfolding window_lines
+lines_end n [] ends now whole e h = rw append-nil at h
+lines_end n (s ∷ ss) ends now whole e h = absurd (omega (arith, e))

@@ -3,13 +3,10 @@ use Rattle.std.proofs.Common.{ℕ, ◌+◌, ◌-◌, ◌≤◌, ◌<◌, ◌≡�
 use Rattle.std.proofs.Math.Seq.{take_at}
 use borrow.Author.Tests.{lt-ltb, le-ltb, ltb-true, ltb-false}
 use Rattle.chain.proofs.ByCases.{by_test}
-use Rattle.cells.proofs.Over.{sets-front}
-use Rattle.std.specs.Counts.{IsPrefixLen}
 use Rattle.std.specs.Io.KnownBytes.{Appends, Consumes, IsAtEnd}
 use Rattle.chain.specs.Paper.{bad_chain}
-use Rattle.listing.specs.Lines.{letter_L, line_of, Puts}
+use Rattle.listing.specs.Lines.{letter_L, line_of}
 use Rattle.listing.specs.Program.{most_input, answer_line, program_lines, text_of, Writes}
-use Rattle.listing.proofs.Putting.{puts_long}
 
 module _ (input : List ℕ) where
   pub too_short : length input < 2 → text_of input ≡ answer_line bad_chain 0 []
@@ -30,18 +27,6 @@ module _ (input : List ℕ) where
         le-ltb most_input (length input) l,
         take_all (length input - 2) (drop 2 input) (omega (arith, length-drop 2 input)),
       )
-
--- a text that was put whole
-pub writes : (input t o x : List ℕ) (r : ℕ) → text_of input ≡ t → Puts 0 t o r x → r ≤ length o → Writes input o r x × IsPrefixLen r x
-writes input t o x r e p h =
-    let n : r ≡ length t = p.stops ∙ zero-add (length t) in
-    let l = puts_long 0 t o x r p in (
-      record {
-        answer = rw e n;
-        output = rw e (p.leaves ∙ sets-front t o (omega arith));
-      },
-      (omega arith, sym (length-take-le r x (omega arith))),
-    )
 
 -- of what is read: all of the input, or so much that more makes no difference
 read_enough : (block rest : List ℕ) (n : ℕ) → length block ≡ most_input + 1 → n ≡ length (take n block) → (n < length block → rest ≡ [])

@@ -1,6 +1,5 @@
--- Lines of text: a letter, and numbers in decimal with a space before each; and text that is put into a buffer. Assumes nothing.
-use Rattle.std.specs.Prelude.{ℕ, zero, suc, ◌+◌, ◌/◌, ◌%◌, ◌≡◌, List, [], ◌∷◌, ◌++◌, ltb, length}
-use Rattle.std.proofs.lemmas.List.Edits.{sets}
+-- Lines of text: a letter, and numbers in decimal with a space before each. Assumes nothing.
+use Rattle.std.specs.Prelude.{ℕ, zero, suc, ◌+◌, ◌/◌, ◌%◌, List, [], ◌∷◌, ◌++◌, ltb}
 use Rattle.chain.specs.Rules.{pick}
 
 -- ASCII
@@ -37,8 +36,3 @@ numbers_of (n ∷ ns) = space ∷ decimal_of n ++ numbers_of ns
 
 abbrev pub line_of : ℕ → List ℕ → List ℕ
 line_of letter ns = letter ∷ numbers_of ns
-
--- t was put into o from at on, which left x; r is where it stops
-pub record Puts (at : ℕ) (t o : List ℕ) (r : ℕ) (x : List ℕ) : Type 0 where
-  pub stops : r ≡ at + length t
-  pub leaves : x ≡ sets o at t

@@ -1,7 +1,6 @@
 // The listing program: mode byte, kind byte and a stream on standard input, the windows of the stream on standard output.
 #![tactic(auto)]
 
-mod digits;
 mod program;
 mod text;
 

@@ -1,17 +1,17 @@
 // The text that the program writes for an input.
-ghost use Rattle.std.specs.Prelude.{◌≡◌, true, [], ◌∷◌, ◌+◌, ◌*◌, ◌≤◌, ◌<◌, length, take};
+ghost use Rattle.std.specs.Prelude.{◌≡◌, true, [], ◌∷◌, ◌++◌, ◌+◌, ◌*◌, ◌≤◌, ◌<◌, length};
 ghost use Rattle.std.specs.Counts.{IsPrefixLen};
-ghost use Rattle.listing.specs.Lines.{letter_W, space, decimal_of, numbers_of, line_of, Puts};
+ghost use Rattle.arrayvec.specs.ArrayString.{array_string_len};
+ghost use Rattle.listing.specs.Lines.{line_of};
 ghost use Rattle.chain.specs.Paper.{serial};
-ghost use Rattle.listing.specs.Program.{window_lines, most_input, most_text, program_lines, Writes};
-ghost use Rattle.listing.specs.ListedTo.{ListedTo};
+ghost use Rattle.listing.specs.Program.{most_windows, most_input, most_text, lister_stop, window_lines, windows_text, program_lines, text_of, Writes};
 
-use crate::digits::{MOST_DIGITS, decimal};
-use cells::copy;
+use arrayvec::ArrayString;
 use chain::kinds::size_of;
 use chain::paper::*;
 use hunt::hunt;
-use lister::list;
+use itoa::Buffer;
+use lister::{Listed, list};
 
 // The most bytes of input, mode byte and kind byte among them.
 pub const MOST_INPUT: usize = 65536;
@@ -22,136 +22,113 @@ const MOST_WINDOWS: usize = 255;
 // 255 windows' lines of 18 bytes, and a last one of 25.
 pub const MOST_TEXT: usize = 4615;
 
-fn put(b: u8, at: usize, out: &mut [u8]) -> usize
-    requires { at < length out.old }
-    ensures { Puts at (b ∷ []) out.old result out.new }
-{
-    out[at] = b;
-    at + 1
-}
+// The text so far.
+type Text = ArrayString<MOST_TEXT>;
 
-// A space and a number.
-fn number(n: u32, at: usize, out: &mut [u8]) -> usize
-    requires { at + 1 + length (decimal_of n) ≤ length out.old }
-    ensures { Puts at (space ∷ decimal_of n) out.old result out.new }
+// A line: a letter, the numbers with a space before each, and a line feed. Numbers come from itoa, since write! could fail.
+fn line(text: &mut Text, letter: char, ns: &[u32])
+    requires ascii { letter < 128 }
+    requires room { array_string_len text.old + length (line_of letter ns.now) ≤ most_text }
+    ensures { text.new.bytes ≡ text.old.bytes ++ line_of letter ns.now }
 {
-    let mut digits = [0u8; MOST_DIGITS];
-    let k = decimal(n, &mut digits);
-    let from = put(b' ', at, out);
-    copy(&mut out[from..], &digits[k..]);
-    from + (MOST_DIGITS - k)
-}
-
-// The rest of a line: numbers, and a line feed.
-fn numbers(ns: &[u32], at: usize, out: &mut [u8]) -> usize
-    requires { at + length (numbers_of ns.now) ≤ length out.old }
-    ensures { Puts at (numbers_of ns.now) out.old result out.new }
-{
-    let mut to = at;
-    let mut i: usize = 0;
-    while i < ns.len() {
-        to = number(ns[i], to, out);
-        i += 1;
+    text.push(letter);
+    for n in ns {
+        text.push(' ');
+        text.push_str(Buffer::new().format(*n));
     }
-    put(b'\n', to, out)
+    text.push('\n');
 }
 
-fn line(letter: u8, ns: &[u32], at: usize, out: &mut [u8]) -> usize
-    requires { at + length (line_of letter ns.now) ≤ length out.old }
-    ensures { Puts at (line_of letter ns.now) out.old result out.new }
+// A text of one line.
+fn alone(letter: char, ns: &[u32]) -> Text
+    requires ascii { letter < 128 }
+    requires room { length (line_of letter ns.now) ≤ most_text }
+    ensures { result.bytes ≡ line_of letter ns.now }
 {
-    let to = put(letter, at, out);
-    numbers(ns, to, out)
+    let mut text = Text::new();
+    line(&mut text, letter, ns);
+    text
 }
 
-fn window(n: u8, start: u16, end: u16, at: usize, out: &mut [u8]) -> usize
-    requires { at + 18 ≤ length out.old }
-    ensures puts { Puts at (line_of letter_W (n ∷ start ∷ end ∷ [])) out.old result out.new }
-    ensures upper_bound { result ≤ at + 18 }
+// A line for each window, from 1.
+fn windows(starts: &[u16], ends: &[u16]) -> Text
+    requires pairs { length ends.now ≡ length starts.now }
+    requires few { length starts.now ≤ most_windows }
+    ensures lines { result.bytes ≡ window_lines 1 starts.now ends.now }
+    ensures upper_bound { array_string_len result ≤ 18 * length starts.now }
 {
-    line(b'W', &[n as u32, start as u32, end as u32], at, out)
-}
-
-// The lines of the first n windows of two tables.
-fn windows(n: u8, starts: &[u16], ends: &[u16], out: &mut [u8]) -> usize
-    requires { (n ≤ length starts.now) × (n ≤ length ends.now) × (18 * n ≤ length out.old) }
-    ensures puts { Puts 0 (window_lines 1 (take n starts.now) (take n ends.now)) out.old result out.new }
-    ensures upper_bound { result ≤ 18 * n }
-{
-    let mut at: usize = 0;
-    let mut i: u8 = 0;
-    while i < n {
-        at = window(i + 1, starts[i as usize], ends[i as usize], at, out);
-        i += 1;
+    let mut text = Text::new();
+    for (i, (start, end)) in starts.iter().zip(ends).enumerate() {
+        line(&mut text, 'W', &[i as u32 + 1, *start as u32, *end as u32]);
     }
-    at
+    text
 }
 
-// What was listed: the number and the bytes taken for the last line, and where the windows' lines stop.
-#[derive(Clone, Copy)]
-struct Listing {
-    number: u8,
-    taken: u32,
-    at: usize,
-}
-
-// The windows' lines of the bytes that the lister is given.
-fn listed(kind: u8, mode: u8, given: &[u8], out: &mut [u8]) -> Listing
-    requires { most_text ≤ length out.old }
-    ensures { ListedTo kind mode given.now out.old result out.new }
+// What the lister answers for the bytes that it is given, and the windows' lines.
+fn listed(kind: u8, mode: u8, given: &[u8]) -> (Listed, Text)
+    ensures number { result.0.number ≡ (lister_stop kind mode given.now).number }
+    ensures taken { result.0.taken ≡ (lister_stop kind mode given.now).taken }
+    ensures lines { result.1.bytes ≡ windows_text kind mode given.now (lister_stop kind mode given.now) }
+    ensures upper_bound { array_string_len result.1 ≤ 18 * most_windows }
 {
-    let mut starts = [0u16; MOST_WINDOWS];
-    let mut ends = [0u16; MOST_WINDOWS];
-    let mut offsets = [0u32; MOST_WINDOWS];
+    let mut starts = [0; MOST_WINDOWS];
+    let mut ends = [0; MOST_WINDOWS];
+    let mut offsets = [0; MOST_WINDOWS];
     let r = list(kind, mode, given, &mut starts, &mut ends, &mut offsets);
-    let at = windows(r.windows, &starts, &ends, out);
-    Listing {
-        number: r.number,
-        taken: r.taken,
-        at: at,
-    }
+    let n = r.windows as usize;
+    (r, windows(&starts[..n], &ends[..n]))
 }
 
 // Modes 3 and 4: the lister is given the hunted bytes, and the last line ends with where they began and the bits left. Kind is tested before the hunt.
-fn hunted(kind: u8, mode: u8, s: &[u8], out: &mut [u8]) -> usize
-    requires { (serial mode ≡ true) × (length s.now ≤ most_input) × (most_text ≤ length out.old) }
-    ensures puts { Puts 0 (program_lines kind mode s.now) out.old result out.new }
-    ensures upper_bound { result ≤ most_text }
+fn hunted(kind: u8, mode: u8, s: &[u8]) -> Text
+    requires hunts { serial mode ≡ true }
+    requires fits { length s.now ≤ most_input }
+    ensures { result.bytes ≡ program_lines kind mode s.now }
 {
     if size_of(kind) == 0 {
-        return line(b'A', &[BAD_CHAIN as u32, 0, 0, 0], 0, out);
+        return alone('A', &[BAD_CHAIN as u32, 0, 0, 0]);
     }
-    let mut found = [0u8; MOST_INPUT];
+    let mut found = [0; MOST_INPUT];
     let h = hunt(s, &mut found);
     if h.number != DONE {
-        return line(b'A', &[NO_PREAMBLE as u32, 0, 0, 0], 0, out);
+        return alone('A', &[NO_PREAMBLE as u32, 0, 0, 0]);
     }
-    let n = h.length;
-    let r = listed(kind, mode, &found[..n], out);
+    let (r, mut text) = listed(kind, mode, &found[..h.length]);
     line(
-        b'A',
+        &mut text,
+        'A',
         &[r.number as u32, r.taken, h.p as u32, h.left as u32],
-        r.at,
-        out,
-    )
+    );
+    text
 }
 
-// The text for an input, which is mode byte, kind byte and stream; its length is answered.
+// The text for an input, which is mode byte, kind byte and stream.
+fn written(input: &[u8]) -> Text
+    ensures { result.bytes ≡ text_of input.now }
+{
+    if MOST_INPUT < input.len() {
+        return alone('L', &[]);
+    }
+    let [mode, kind, stream @ ..] = input else {
+        return alone('A', &[BAD_CHAIN as u32, 0]);
+    };
+    if (*mode == SERIAL_EXTERNAL) | (*mode == SERIAL_INTERNAL) {
+        return hunted(*kind, *mode, stream);
+    }
+    let (r, mut text) = listed(*kind, *mode, stream);
+    line(&mut text, 'A', &[r.number as u32, r.taken]);
+    text
+}
+
+// The text for an input, put at the front of a block; its length is answered.
+// Kept: promise of text: Writes speaks of a lent block and of a length.
 pub fn text(input: &[u8], out: &mut [u8; MOST_TEXT]) -> usize
     ensures writes { Writes input.now out.old result out.new }
     ensures prefix_len { IsPrefixLen result out.new }
 {
-    if input.len() < 2 {
-        return line(b'A', &[BAD_CHAIN as u32, 0], 0, out);
-    }
-    if MOST_INPUT < input.len() {
-        return line(b'L', &[], 0, out);
-    }
-    let mode = input[0];
-    let kind = input[1];
-    if (mode == SERIAL_EXTERNAL) | (mode == SERIAL_INTERNAL) {
-        return hunted(kind, mode, &input[2..], out);
-    }
-    let r = listed(kind, mode, &input[2..], out);
-    line(b'A', &[r.number as u32, r.taken], r.at, out)
+    let text = written(input);
+    let bytes = text.as_str().as_bytes();
+    let n = bytes.len();
+    out[..n].copy_from_slice(bytes);
+    n
 }

@@ -1,12 +1,20 @@
--- The lines of the first i windows were put.
-use Rattle.std.proofs.Common.{◌-◌, ◌*◌, ◌≤◌, take}
-use Rattle.listing.specs.Lines.{Puts}
+-- What is written, and then the lines of the windows to come, make the whole.
+use Rattle.std.proofs.Common.{◌≡◌, ◌+◌, ◌*◌, ◌≤◌, ◌++◌, length}
+use Rattle.std.specs.Iterator.Adapters.{enumerate_count, enumerate_source, zip_first, zip_second}
+use Rattle.std.specs.Slice.Iter.{iter_rest}
 use Rattle.listing.specs.Program.{window_lines}
 use Rattle.listing.proofs.text.windows.Given as goal
 
 abbrev pub invariant-loop-i : goal.invariant-loop-i
 invariant-loop-i l =
-    record { within : l.i ≤ l.n; short : l.at ≤ 18 * l.i; lines : Puts 0 (window_lines 1 (take l.i l.starts) (take l.i l.ends)) l.initial.out l.at l.out }
-
-abbrev pub decreases-loop-i : goal.decreases-loop-i
-decreases-loop-i l = l.n - l.i
+    let n = enumerate_count l.i-iterator in
+    let starts = iter_rest (zip_first (enumerate_source l.i-iterator)) in
+    let ends = iter_rest (zip_second (enumerate_source l.i-iterator)) in
+    record {
+      next : (goal.iterator-loop-i).can_next l.i-iterator;
+      ends : (goal.iterator-loop-i).is_finite l.i-iterator;
+      pairs : length ends ≡ length starts;
+      within : n + length starts ≡ length l.starts;
+      short : length l.text.bytes ≤ 18 * n;
+      whole : l.text.bytes ++ window_lines (n + 1) starts ends ≡ window_lines 1 l.starts l.ends;
+    }
