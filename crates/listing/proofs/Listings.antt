@@ -1,5 +1,5 @@
 -- The windows that the lister's tables name are those of the definition. Assumes nothing.
-use Rattle.std.proofs.Common.{ℕ, ◌≡◌, ap, ◌∙◌, List, length, take, drop}
+use Rattle.std.proofs.Common.{ℕ, ◌≡◌, ap, ◌∙◌, List, ◌++◌, length, take, drop}
 use Rattle.std.proofs.lemmas.List.{length-map}
 use Rattle.std.proofs.Math.Seq.{take_at}
 use Rattle.reader.specs.declared.window.ReadWindow.{ReadWindow}
@@ -7,7 +7,7 @@ use Rattle.lister.specs.declared.Listed.{Listed}
 use Rattle.reader.specs.Stream.{preamble_at}
 use Rattle.lister.specs.Listing.{listed_of, starts_of, ends_of, listed, listing, Lists}
 use Rattle.lister.proofs.Tables.{lists_leave}
-use Rattle.listing.specs.Program.{most_windows, lister_stop, windows_listed}
+use Rattle.listing.specs.Program.{most_windows, lister_stop, windows_listed, windows_text, answer_line, lines_of}
 
 module _ (kind mode : ℕ) (s starts ends offsets : List ℕ) (r : Listed) (starts' ends' offsets' : List ℕ)
     (a : length starts ≡ most_windows) (b : length ends ≡ most_windows) (c : length offsets ≡ most_windows)
@@ -37,3 +37,10 @@ module _ (kind mode : ℕ) (s starts ends offsets : List ℕ) (r : Listed) (star
         starts_are = rw is_stop at f;
         ends_are = rw is_stop at g;
       }
+
+-- and the last line after them makes the whole text
+pub lines_whole : (kind mode : ℕ) (s windows new : List ℕ) (number taken : ℕ) (following : List ℕ) → number ≡ (lister_stop kind mode s).number → taken ≡ (lister_stop kind mode s).taken
+    → windows ≡ windows_text kind mode s (lister_stop kind mode s) → new ≡ windows ++ answer_line number taken following
+    → new ≡ lines_of kind mode s (lister_stop kind mode s) following
+unfolding lines_of
+lines_whole kind mode s windows new number taken following n t w e = rw (n, t, w) at e

@@ -10,12 +10,36 @@ use lib.ListN.{length, take}
 use Rattle.chain.specs.Paper.{first_mode, two_preambles, serial_external, serial_internal, done, bad_chain, no_preamble, serial}
 use Rattle.chain.specs.Rules.{from}
 use Rattle.chain.specs.Kinds.{size_of}
+use Rattle.chain.specs.declared.kinds.Kind.{Kind}
+use Rattle.chain.specs.declared.kinds.Kind.TheVariants.{Teaching, At6002, At6003, At6005, At6010}
+use Rattle.chain.specs.KnownKinds.{kind_number}
 use Rattle.hunt.specs.declared.Hunted.{Hunted}
 use Rattle.hunt.specs.Hunt.{nowhere, found_at, hunted_bytes, hunt_number, hunt_of, Hunt}
 use Rattle.hunt.proofs.Answers.{hunted-count, done-found, done-figures, done-front}
 use Rattle.lister.specs.Listing.{list_stop, listing_of}
 use Rattle.chain.proofs.ByCases.{by_test}
 use Rattle.listing.specs.Program.{most_input, lister_stop, program_stop, window_lines, answer_line, lines_of, program_lines}
+
+-- modes 3 and 4 are modes
+serial_mode : (mode : ℕ) → serial mode ≡ true → from first_mode two_preambles mode ≡ true
+serial_mode mode m =
+    by_test (eqb mode serial_external) (λ y. rw (eqb-true mode serial_external y))
+    (λ y. rw (eqb-true mode serial_internal (rw y at m)))
+
+pub no_serial : (mode : ℕ) → from first_mode two_preambles mode ≡ false → serial mode ≡ false
+no_serial mode f = by_test (serial mode) (λ y. cc (serial_mode mode y)) (λ y. y)
+
+-- a known kind has a size
+kind_sized : (k : Kind) → size_of (kind_number k) ≡ 0 → ⊥
+unfolding size_of
+kind_sized Teaching z = omega arith
+kind_sized At6002 z = omega arith
+kind_sized At6003 z = omega arith
+kind_sized At6005 z = omega arith
+kind_sized At6010 z = omega arith
+
+pub kind_known : (k : Kind) (n : ℕ) → kind_number k ≡ n → size_of n ≡ 0 → ⊥
+kind_known k n e z = kind_sized k (ap size_of e ∙ z)
 
 -- what the hunt answers in the program's own output
 pub hunt_answer : (s out : List ℕ) (r : Hunted) (out' : List ℕ) → Hunt s out r out' → length out ≡ most_input → r ≡ hunt_of s most_input
@@ -62,19 +86,14 @@ module _ (kind mode : ℕ) (s : List ℕ) where
   way_kind m h = simp (m, eq-eqb (size_of kind) 0 h)
 
   module _ (k : size_of kind ≡ 0 → ⊥) (m : serial mode ≡ true) where
-    in_range : from first_mode two_preambles mode ≡ true
-    in_range =
-        by_test (eqb mode serial_external) (λ y. rw (eqb-true mode serial_external y))
-        (λ y. rw (eqb-true mode serial_internal (rw y at m)))
-
     pub way_nowhere : found_at s ≡ nowhere → program_lines kind mode s ≡ answer_line no_preamble 0 (0 ∷ 0 ∷ [])
     unfolding program_lines program_stop lines_of listing_of window_lines hunt_of hunt_number
-    way_nowhere h = simp (ne_eqb (size_of kind) 0 k, in_range, m, eq-eqb (found_at s) nowhere h)
+    way_nowhere h = simp (ne_eqb (size_of kind) 0 k, serial_mode mode m, m, eq-eqb (found_at s) nowhere h)
 
     pub way_hunted : (h : Hunted) → h ≡ hunt_of s most_input → eqb (found_at s) nowhere ≡ false
         → program_lines kind mode s ≡ lines_of kind mode (hunted_bytes s) (lister_stop kind mode (hunted_bytes s)) (h.p ∷ h.left ∷ [])
     unfolding program_lines program_stop
-    way_hunted h e f = simp (ne_eqb (size_of kind) 0 k, in_range, m, f, ← e)
+    way_hunted h e f = simp (ne_eqb (size_of kind) 0 k, serial_mode mode m, m, f, ← e)
 
   pub way_plain : serial mode ≡ false → program_lines kind mode s ≡ lines_of kind mode s (lister_stop kind mode s) []
   unfolding program_lines program_stop list_stop

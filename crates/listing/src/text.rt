@@ -1,14 +1,17 @@
 // The text that the program writes for an input.
-ghost use Rattle.std.specs.Prelude.{◌≡◌, true, [], ◌∷◌, ◌++◌, ◌+◌, ◌*◌, ◌≤◌, ◌<◌, length};
+ghost use Rattle.std.specs.Prelude.{◌≡◌, true, [], ◌∷◌, ◌++◌, ◌+◌, ◌*◌, ◌≤◌, ◌<◌, length, IfOk, IfErr};
 ghost use Rattle.std.specs.Counts.{IsPrefixLen};
 ghost use Rattle.arrayvec.specs.ArrayString.{array_string_len};
 ghost use Rattle.listing.specs.Lines.{line_of};
 ghost use Rattle.chain.specs.Paper.{serial};
-ghost use Rattle.listing.specs.Program.{most_windows, most_input, most_text, lister_stop, window_lines, windows_text, program_lines, text_of, Writes};
+ghost use Rattle.chain.specs.Refusal.{number_of};
+ghost use Rattle.listing.specs.Program.{most_windows, most_input, most_text, lister_stop, window_lines, windows_text, answer_line, program_lines, text_of, Writes};
 
 use arrayvec::ArrayString;
-use chain::kinds::size_of;
-use chain::paper::*;
+use chain::kinds::Kind;
+use chain::mode::Mode;
+use chain::paper::DONE;
+use chain::refusal::Refusal;
 use hunt::hunt;
 use itoa::Buffer;
 use lister::{Listed, list};
@@ -80,18 +83,17 @@ fn listed(kind: u8, mode: u8, given: &[u8]) -> (Listed, Text)
 }
 
 // Modes 3 and 4: the lister is given the hunted bytes, and the last line ends with where they began and the bits left. Kind is tested before the hunt.
-fn hunted(kind: u8, mode: u8, s: &[u8]) -> Text
+fn hunted(kind: u8, mode: u8, s: &[u8]) -> Result<Text, Refusal>
     requires hunts { serial mode ≡ true }
     requires fits { length s.now ≤ most_input }
-    ensures { result.bytes ≡ program_lines kind mode s.now }
+    ensures ok { IfOk result (λ text. text.bytes ≡ program_lines kind mode s.now) }
+    ensures err { IfErr result (λ e. program_lines kind mode s.now ≡ answer_line (number_of e) 0 (0 ∷ 0 ∷ [])) }
 {
-    if size_of(kind) == 0 {
-        return alone('A', &[BAD_CHAIN as u32, 0, 0, 0]);
-    }
+    Kind::try_from(kind)?;
     let mut found = [0; MOST_INPUT];
     let h = hunt(s, &mut found);
     if h.number != DONE {
-        return alone('A', &[NO_PREAMBLE as u32, 0, 0, 0]);
+        return Err(Refusal::NoPreamble);
     }
     let (r, mut text) = listed(kind, mode, &found[..h.length]);
     line(
@@ -99,7 +101,7 @@ fn hunted(kind: u8, mode: u8, s: &[u8]) -> Text
         'A',
         &[r.number as u32, r.taken, h.p as u32, h.left as u32],
     );
-    text
+    Ok(text)
 }
 
 // The text for an input, which is mode byte, kind byte and stream.
@@ -110,10 +112,13 @@ fn written(input: &[u8]) -> Text
         return alone('L', &[]);
     }
     let [mode, kind, stream @ ..] = input else {
-        return alone('A', &[BAD_CHAIN as u32, 0]);
+        return alone('A', &[Refusal::BadChain.number() as u32, 0]);
     };
-    if (*mode == SERIAL_EXTERNAL) | (*mode == SERIAL_INTERNAL) {
-        return hunted(*kind, *mode, stream);
+    if Mode::try_from(*mode).is_ok_and(|m| m.is_serial()) {
+        return match hunted(*kind, *mode, stream) {
+            Ok(text) => text,
+            Err(refusal) => alone('A', &[refusal.number() as u32, 0, 0, 0]),
+        };
     }
     let (r, mut text) = listed(*kind, *mode, stream);
     line(&mut text, 'A', &[r.number as u32, r.taken]);

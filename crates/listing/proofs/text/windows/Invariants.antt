@@ -8,13 +8,13 @@ use Rattle.listing.proofs.text.windows.Given as goal
 abbrev pub invariant-loop-i : goal.invariant-loop-i
 invariant-loop-i l =
     let n = enumerate_count l.i-iterator in
-    let starts = iter_rest (zip_first (enumerate_source l.i-iterator)) in
-    let ends = iter_rest (zip_second (enumerate_source l.i-iterator)) in
+    let first = iter_rest (zip_first (enumerate_source l.i-iterator)) in
+    let second = iter_rest (zip_second (enumerate_source l.i-iterator)) in
     record {
       next : (goal.iterator-loop-i).can_next l.i-iterator;
       ends : (goal.iterator-loop-i).is_finite l.i-iterator;
-      pairs : length ends ≡ length starts;
-      within : n + length starts ≡ length l.starts;
+      pairs : length second ≡ length first;
+      within : n + length first ≡ length l.starts;
       short : length l.text.bytes ≤ 18 * n;
-      whole : l.text.bytes ++ window_lines (n + 1) starts ends ≡ window_lines 1 l.starts l.ends;
+      whole : l.text.bytes ++ window_lines (n + 1) first second ≡ window_lines 1 l.starts l.ends;
     }
