@@ -1,9 +1,9 @@
 -- A number's digits are those that std writes, and how long a line is. Assumes nothing.
-use Rattle.std.proofs.Common.{ℕ, zero, suc, ◌+◌, ◌/◌, ◌%◌, ◌^◌, ◌≤◌, ◌<◌, ◌≡◌, refl, [], ◌∷◌, ltb, length, length-append, arith}
+use Rattle.std.proofs.Common.{ℕ, suc, ◌%◌, ◌^◌, ◌≤◌, ◌<◌, ◌≡◌, refl, [], ◌∷◌, length, length-append, arith}
 use Rattle.std.specs.Fmt.{decimal}
 use Rattle.std.proofs.lemmas.Fmt.{AppendsLastDigit, decimal_from_appends, length-decimal-le, length-decimal-le_succ}
 use borrow.Author.Tests.{lt-ltb, le-ltb}
-use Rattle.listing.specs.Lines.{letter_W, digit_0, digits_within, decimal_of, numbers_of, line_of}
+use Rattle.listing.specs.Lines.{letter_W, digits_within, decimal_of, numbers_of, line_of}
 use Rattle.listing.specs.Program.{answer_line}
 
 last_digit : AppendsLastDigit digits_within
@@ -24,12 +24,11 @@ decimal_short k n h l m = rw (decimal_is n m) (length-decimal-le k n h l m)
 -- the longest lines: a window's number is a byte and its bounds are of 16 bits, an answer's number is a byte and its bytes taken are of 32
 window_digits : (n start end : ℕ) → n < 2 ^ 8 → start < 2 ^ 16 → end < 2 ^ 16
     → (length (decimal_of n) ≤ 3) × (length (decimal_of start) ≤ 5) × (length (decimal_of end) ≤ 5)
-window_digits n start end h k l =
-    (
-      decimal_short 3 n (omega arith) (omega arith) (omega arith),
-      decimal_short 5 start (omega arith) (omega arith) (omega arith),
-      decimal_short 5 end (omega arith) (omega arith) (omega arith),
-    )
+window_digits n start end h k l = (
+  decimal_short 3 n (omega arith) (omega arith) (omega arith),
+  decimal_short 5 start (omega arith) (omega arith) (omega arith),
+  decimal_short 5 end (omega arith) (omega arith) (omega arith),
+)
 
 answer_digits : (number taken : ℕ) → number < 2 ^ 8 → taken < 2 ^ 32 → (length (decimal_of number) ≤ 3) × (length (decimal_of taken) ≤ 10)
 answer_digits number taken h k =

@@ -1,5 +1,5 @@
 -- The whole text, by the length of the input, and from a reader to a writer. Assumes nothing.
-use Rattle.std.proofs.Common.{ℕ, ◌+◌, ◌-◌, ◌≤◌, ◌<◌, ◌≡◌, sym, ap, ◌∙◌, subst, List, [], ◌++◌, append-nil, length, take, drop, get_or, length-drop, length-append, length-take-le, take_all, zero-add, ltb, Option, Some, None, Result, Ok, Err, OnOk, IfSome, arith}
+use Rattle.std.proofs.Common.{ℕ, ◌+◌, ◌-◌, ◌≤◌, ◌<◌, ◌≡◌, sym, ap, ◌∙◌, subst, List, [], ◌++◌, append-nil, length, take, drop, get_or, length-drop, length-append, take_all, ltb, Option, Some, None, Result, Ok, Err, OnOk, IfSome, arith}
 use Rattle.std.proofs.Math.Seq.{take_at}
 use borrow.Author.Tests.{lt-ltb, le-ltb, ltb-true, ltb-false}
 use Rattle.chain.proofs.ByCases.{by_test}

@@ -1,7 +1,6 @@
-use Rattle.std.proofs.Common.{◌≡◌, ◌≤◌, ◌<◌, ◌^◌, ◌+◌, ◌∙◌, ap, sym, refl, ◌∷◌, ◌++◌, length, drop, length-append, append_assoc, get_or, rules, arith}
+use Rattle.std.proofs.Common.{◌≡◌, ◌<◌, ◌^◌, ◌∙◌, ap, sym, refl, ◌∷◌, ◌++◌, length, drop, length-append, append_assoc, get_or, rules, arith}
 use Rattle.std.specs.Prelude.{encode_utf8}
-use Rattle.std.specs.Fmt.{decimal}
-use Rattle.listing.specs.Lines.{space, decimal_of, numbers_of}
+use Rattle.listing.specs.Lines.{decimal_of, numbers_of}
 use Rattle.listing.proofs.Decimal.{decimal_is}
 use Rattle.listing.proofs.Putting.{numbers_more, numbers_done, room_left}
 use Rattle.listing.proofs.text.line.Goals as goal

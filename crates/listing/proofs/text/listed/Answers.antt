@@ -1,4 +1,4 @@
-use Rattle.std.proofs.Common.{rules, ◌≡◌}
+use Rattle.std.proofs.Common.{rules}
 use Rattle.listing.proofs.Listings.{told}
 use Rattle.listing.proofs.text.listed.Goals as goal
 

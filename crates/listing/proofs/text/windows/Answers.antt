@@ -1,4 +1,4 @@
-use Rattle.std.proofs.Common.{rules, arith, ◌≡◌, ◌∷◌, ◌+◌, ◌<◌, ◌^◌, ap, sym, inl, inr, length, length-append}
+use Rattle.std.proofs.Common.{rules, arith, ◌≡◌, ◌+◌, ◌<◌, ◌^◌, ap, sym, inl, inr, length, length-append}
 use Rattle.std.specs.Iterator.Adapters.{enumerate_count, enumerate_source, zip_first, zip_second}
 use Rattle.std.specs.Slice.Iter.{iter_rest}
 use Rattle.listing.proofs.Decimal.{window_line}
@@ -33,7 +33,7 @@ loop-i-preserved c =
       within = omega (arith, a, s.2, l.within);
       short = omega (arith, long, w, s.2, l.short);
       whole = line_more (enumerate_count c.next.new.self) c.in-Some.start.now c.in-Some.end.now (iter_rest (zip_first z)) (iter_rest (zip_second z)) c.loop-i.text.bytes _ _
-      (rw e at c.line.ensures) (rw (s.0.0, s.0.1, f) at l.whole);
+          (rw e at c.line.ensures) (rw (s.0.0, s.0.1, f) at l.whole);
     }
 
 pub returns-clause-lines : goal.returns-clause-lines
