@@ -1,191 +1,99 @@
 // Each public call, made with what the script lends it; what it answers is printed, and so is the state that it hands back.
-ghost use Rattle.std.specs.Prelude.{◌≤◌};
-
-use crate::script::{Call, at, eight, least, long, rest, word, words};
-use crate::{sheets, show};
-use chain::{Chain, Made, Place};
+use crate::script::{Args, Call};
+use crate::sheets;
+use crate::show::{Hex, Longs};
+use chain::{Chain, Made, Place, Written};
 use eprom::{Fetched, Fetcher};
-use machine::Fed;
+use machine::{Answer, Fed};
 use std::io;
-use std::io::Write;
+use std::io::Print;
 
 // What stands in the lister's tables before the call.
 const WORD: u16 = 0xeeee;
 
 const LONG: u32 = 0xeeeeeeee;
 
-// What goes from call to call: the state, and the fetcher that a board has beside it.
-#[derive(Clone, Copy)]
-pub struct Board {
-    pub chain: Chain,
-    pub fetcher: Fetcher,
-}
+// Entries of a table at most.
+const ENTRIES: usize = 512;
 
-fn state(to: &mut impl Write, c: Chain) -> io::Result<()> {
-    let ks = c.kinds;
-    let rs = c.registers;
-    let p = c.place;
-    show::byte(to, c.count)?;
-    show::group(to, &ks)?;
-    show::group(to, &rs)?;
-    show::group(
-        to,
-        &[
-            p.running, p.mode, p.check, p.device, p.awaited, p.left, p.control,
-        ],
-    )?;
-    show::words(to, &[p.start, p.end, p.next])?;
-    show::longs(to, &[p.taken, p.mismatches])
-}
-
-// The place that the arguments spell from its first byte on, in the order in which it is printed.
-fn place(s: &[u8]) -> Place {
-    let mut p = chain::closed_place();
-    p.running = at(s, 0);
-    p.mode = at(s, 1);
-    p.check = at(s, 2);
-    p.device = at(s, 3);
-    p.awaited = at(s, 4);
-    p.left = at(s, 5);
-    p.control = at(s, 6);
-    p.start = word(rest(s, 7));
-    p.end = word(rest(s, 9));
-    p.next = word(rest(s, 11));
-    p.taken = long(rest(s, 13));
-    p.mismatches = long(rest(s, 17));
-    p
+// The place that the arguments spell, in the order in which it is printed.
+fn spelled_place(s: &mut Args) -> Place {
+    Place {
+        running: s.byte(),
+        mode: s.byte(),
+        check: s.byte(),
+        device: s.byte(),
+        awaited: s.byte(),
+        left: s.byte(),
+        control: s.byte(),
+        start: s.word(),
+        end: s.word(),
+        next: s.word(),
+        taken: s.long(),
+        mismatches: s.long(),
+    }
 }
 
 // The state that the arguments spell; what they do not reach is 0. So a field that a place gets later is spelled behind the mismatches, and printed
 // there where it is not 0: no line without it moves.
-fn spelled(s: &[u8]) -> Chain {
-    let p = place(rest(s, 17));
-    let ks = eight(rest(s, 1));
-    let rs = eight(rest(s, 9));
+fn spelled_chain(s: &mut Args) -> Chain {
     Chain {
-        count: at(s, 0),
-        kinds: ks,
-        registers: rs,
-        place: p,
+        count: s.byte(),
+        kinds: s.bytes(),
+        registers: s.bytes(),
+        place: spelled_place(s),
     }
 }
 
-// The fetcher that the arguments spell.
-fn spelled_fetcher(s: &[u8]) -> Fetcher {
-    let address = [at(s, 5), at(s, 6), at(s, 7)];
+fn spelled_fetcher(s: &mut Args) -> Fetcher {
     Fetcher {
-        counter: long(s),
-        control: at(s, 4),
-        address,
-        nulled: at(s, 8),
+        counter: s.long(),
+        control: s.byte(),
+        address: s.bytes(),
+        nulled: s.byte(),
     }
-}
-
-// The state and the fetcher before the first call.
-pub fn zero() -> Board {
-    let c = spelled(&[]);
-    let f = spelled_fetcher(&[]);
-    Board {
-        chain: c,
-        fetcher: f,
-    }
-}
-
-fn lent(to: &mut impl Write, s: &[u8]) -> io::Result<Chain> {
-    let c = spelled(s);
-    state(to, c)?;
-    Ok(c)
-}
-
-fn filled(letter: u8, n: usize) -> usize
-    ensures { result ≤ n }
-{
-    if letter == b'm' { n } else { 0 }
 }
 
 // The call m fills memory: a, a + b, a + 2b and so on.
 pub fn fill(call: Call, mem: &mut [u8]) {
-    let n = filled(call.letter, mem.len());
-    let mut v = call.a;
-    let mut i: usize = 0;
-    while i < n {
-        mem[i] = v;
-        v = std::num::wrapping_add_u8(v, call.b);
-        i += 1;
+    if call.letter == b'm' {
+        let mut next = call.a;
+        for cell in mem {
+            *cell = next;
+            next = next.wrapping_add(call.b);
+        }
     }
 }
 
 // The call e lays bytes into the EPROM from an address on.
 pub fn burn(call: Call, e: &mut [u8], args: &[u8]) {
     if call.letter == b'e' {
-        let from = least(call.mem, e.len());
+        let from = call.mem.min(e.len());
         cells::copy(&mut e[from..], args);
     }
 }
 
-fn made(to: &mut impl Write, m: Made) -> io::Result<Chain> {
-    let c = m.chain;
-    show::byte(to, m.number)?;
-    state(to, c)?;
-    Ok(c)
+fn answer(to: &impl Print, a: Answer) -> io::Result<()> {
+    print!(to; " {:02x} {:08x} {:08x}", a.number, a.taken, a.mismatches)
 }
 
-fn fed(to: &mut impl Write, f: Fed) -> io::Result<Chain> {
-    let c = f.chain;
-    let a = f.answer;
-    show::byte(to, a.number)?;
-    show::long(to, a.taken)?;
-    show::long(to, a.mismatches)?;
-    state(to, c)?;
-    Ok(c)
+fn written(to: &impl Print, w: Written) -> io::Result<()> {
+    print!(to; " {:02x} {:08x}", w.number, w.length)
 }
 
-fn fetcher(to: &mut impl Write, f: Fetcher) -> io::Result<Fetcher> {
-    let address = f.address;
-    show::long(to, f.counter)?;
-    show::byte(to, f.control)?;
-    show::group(to, &address)?;
-    show::byte(to, f.nulled)?;
-    Ok(f)
-}
-
-fn fetched(to: &mut impl Write, r: Fetched) -> io::Result<Board> {
-    let c = r.chain;
-    let a = r.answer;
-    let f = r.fetcher;
-    show::byte(to, a.number)?;
-    show::long(to, a.taken)?;
-    show::long(to, a.mismatches)?;
-    state(to, c)?;
-    fetcher(to, f)?;
-    Ok(Board {
-        chain: c,
-        fetcher: f,
-    })
-}
-
-fn length(to: &mut impl Write, n: usize) -> io::Result<()> {
-    show::long(to, (n % 4294967296) as u32)
-}
-
-fn written(to: &mut impl Write, number: u8, n: usize) -> io::Result<()> {
-    show::byte(to, number)?;
-    length(to, n)
-}
-
-fn write(
-    to: &mut impl Write,
-    call: Call,
-    args: &[u8],
-    starts: &mut [u16],
-    ends: &mut [u16],
-    out: &mut [u8],
-) -> io::Result<()> {
-    let address = [at(args, 0), at(args, 1), at(args, 2)];
-    let s = rest(args, 3);
-    words(s, starts);
-    let e = rest(s, 2 * starts.len());
-    words(e, ends);
+fn write(to: &impl Print, call: Call, args: &[u8], out: &mut [u8]) -> io::Result<()> {
+    let mut starts = [0; ENTRIES];
+    let mut ends = [0; ENTRIES];
+    let starts = &mut starts[..call.starts.min(ENTRIES)];
+    let ends = &mut ends[..call.ends.min(ENTRIES)];
+    let mut args = Args::new(args);
+    let address = args.bytes();
+    for start in starts.iter_mut() {
+        *start = args.word();
+    }
+    for end in ends.iter_mut() {
+        *end = args.word();
+    }
     let w = writer::write(
         call.a,
         call.b,
@@ -193,159 +101,149 @@ fn write(
         address,
         starts,
         ends,
-        rest(e, 2 * ends.len()),
+        args.rest(),
         out,
     );
-    written(to, w.number, w.length)
+    written(to, w)
 }
 
-fn list(
-    to: &mut impl Write,
-    call: Call,
-    s: &[u8],
-    starts: &mut [u16],
-    ends: &mut [u16],
-    offsets: &mut [u32],
-) -> io::Result<()> {
+fn list(to: &impl Print, call: Call, s: &[u8]) -> io::Result<()> {
+    let mut starts = [WORD; ENTRIES];
+    let mut ends = [WORD; ENTRIES];
+    let mut offsets = [LONG; ENTRIES];
+    let starts = &mut starts[..call.starts.min(ENTRIES)];
+    let ends = &mut ends[..call.ends.min(ENTRIES)];
+    let offsets = &mut offsets[..call.out.min(ENTRIES)];
     let l = lister::list(call.a, call.b, s, starts, ends, offsets);
-    let address = l.address;
-    show::byte(to, l.number)?;
-    show::byte(to, l.windows)?;
-    show::byte(to, l.control)?;
-    show::group(to, &address)?;
-    show::long(to, l.taken)?;
-    show::words(to, starts)?;
-    show::words(to, ends)?;
-    show::longs(to, offsets)
+    print!(to;
+        " {:02x} {:02x} {:02x} {}",
+        l.number,
+        l.windows,
+        l.control,
+        Hex(&l.address)
+    )?;
+    print!(to;
+        " {:08x} {} {}{}",
+        l.taken,
+        Hex(starts),
+        Hex(ends),
+        Longs(offsets)
+    )
 }
 
-// The calls on a state alone; any other letter leaves it.
-fn on_chain(
-    to: &mut impl Write,
-    call: Call,
-    c: Chain,
-    mem: &mut [u8],
-    args: &[u8],
-) -> io::Result<Chain> {
-    let letter = call.letter;
-    match letter {
-        b'=' => lent(to, args),
-        b'n' => made(to, chain::new(call.a, eight(args), mem)),
-        b'r' => made(to, chain::reset(c, mem)),
-        b's' => made(to, machine::start(c, mem, call.a, call.b)),
-        b'd' => made(to, machine::drop(c, mem)),
-        b'b' => fed(to, machine::byte(c, mem, call.a)),
-        b'f' => fed(to, machine::slice(c, mem, args)),
-        b'p' => made(to, saved::pick_up(c, mem, args)),
-        _ => Ok(c),
-    }
+// What goes from call to call: the state, and the fetcher that a board has beside it.
+#[derive(Drop)]
+pub struct Board {
+    chain: Chain,
+    fetcher: Fetcher,
 }
 
-// The calls on a state or a fetcher, with as much of the EPROM as the call is lent; any other letter leaves both.
-pub fn on_board(
-    to: &mut impl Write,
-    call: Call,
-    b: Board,
-    mem: &mut [u8],
-    e: &[u8],
-    args: &[u8],
-) -> io::Result<Board> {
-    let c = b.chain;
-    let f = b.fetcher;
-    let letter = call.letter;
-    match letter {
-        b'g' => {
-            let g = fetcher(to, spelled_fetcher(args))?;
-            Ok(Board {
-                chain: c,
-                fetcher: g,
-            })
-        }
-        b'i' => {
-            let g = fetcher(to, eprom::fetcher_new(call.a))?;
-            Ok(Board {
-                chain: c,
-                fetcher: g,
-            })
-        }
-        b'x' => {
-            let k = least(call.out, e.len());
-            fetched(to, eprom::fetch(c, f, mem, &e[0..k], long(args) as usize))
-        }
-        _ => {
-            let d = on_chain(to, call, c, mem, args)?;
-            Ok(Board {
-                chain: d,
-                fetcher: f,
-            })
+impl Board {
+    // All zero.
+    pub fn new() -> Board {
+        Board {
+            chain: spelled_chain(&mut Args::new(&[])),
+            fetcher: spelled_fetcher(&mut Args::new(&[])),
         }
     }
-}
 
-// The calls with tables.
-fn on_tables(to: &mut impl Write, call: Call, args: &[u8], out: &mut [u8]) -> io::Result<()> {
-    let mut starts = [WORD; 512];
-    let mut ends = [WORD; 512];
-    let mut offsets = [LONG; 512];
-    let i = least(call.starts, 512);
-    let j = least(call.ends, 512);
-    let k = least(call.out, 512);
-    if call.letter == b'w' {
-        write(to, call, args, &mut starts[0..i], &mut ends[0..j], out)
-    } else {
-        list(
-            to,
-            call,
-            args,
-            &mut starts[0..i],
-            &mut ends[0..j],
-            &mut offsets[0..k],
+    // Each of these takes over what a call hands back, and prints it.
+    fn take_chain(&mut self, to: &impl Print, c: Chain) -> io::Result<()> {
+        self.chain = c;
+        let p = c.place;
+        let bytes = [
+            p.running, p.mode, p.check, p.device, p.awaited, p.left, p.control,
+        ];
+        let words = [p.start, p.end, p.next];
+        print!(to; " {:02x} {} {}", c.count, Hex(&c.kinds), Hex(&c.registers))?;
+        print!(to;
+            " {} {} {:08x} {:08x}",
+            Hex(&bytes),
+            Hex(&words),
+            p.taken,
+            p.mismatches
         )
     }
-}
 
-// The calls with an output or tables, and text.
-pub fn on_output(
-    to: &mut impl Write,
-    call: Call,
-    c: Chain,
-    mem: &[u8],
-    args: &[u8],
-    out: &mut [u8],
-) -> io::Result<()> {
-    let letter = call.letter;
-    match letter {
-        b'c' => {
-            let w = closing::closing(c, mem, out);
-            written(to, w.number, w.length)
+    fn take_fetcher(&mut self, to: &impl Print, f: Fetcher) -> io::Result<()> {
+        self.fetcher = f;
+        print!(to;
+            " {:08x} {:02x} {} {:02x}",
+            f.counter,
+            f.control,
+            Hex(&f.address),
+            f.nulled
+        )
+    }
+
+    fn made(&mut self, to: &impl Print, m: Made) -> io::Result<()> {
+        print!(to; " {:02x}", m.number)?;
+        self.take_chain(to, m.chain)
+    }
+
+    fn fed(&mut self, to: &impl Print, f: Fed) -> io::Result<()> {
+        answer(to, f.answer)?;
+        self.take_chain(to, f.chain)
+    }
+
+    fn fetched(&mut self, to: &impl Print, f: Fetched) -> io::Result<()> {
+        answer(to, f.answer)?;
+        self.take_chain(to, f.chain)?;
+        self.take_fetcher(to, f.fetcher)
+    }
+
+    // Makes the call with what it is lent. Any other letter leaves all as it is.
+    // Kept: no plainer: the script's letters are matched here alone, each beside its call.
+    pub fn make(
+        &mut self,
+        to: &impl Print,
+        call: Call,
+        args: &[u8],
+        mem: &mut [u8],
+        e: &[u8],
+        out: &mut [u8],
+    ) -> io::Result<()> {
+        let c = self.chain;
+        let f = self.fetcher;
+        match call.letter {
+            b'=' => self.take_chain(to, spelled_chain(&mut Args::new(args))),
+            b'n' => self.made(to, chain::new(call.a, Args::new(args).bytes(), mem)),
+            b'r' => self.made(to, chain::reset(c, mem)),
+            b's' => self.made(to, machine::start(c, mem, call.a, call.b)),
+            b'd' => self.made(to, machine::drop(c, mem)),
+            b'b' => self.fed(to, machine::byte(c, mem, call.a)),
+            b'f' => self.fed(to, machine::slice(c, mem, args)),
+            b'p' => self.made(to, saved::pick_up(c, mem, args)),
+            b'g' => self.take_fetcher(to, spelled_fetcher(&mut Args::new(args))),
+            b'i' => self.take_fetcher(to, eprom::fetcher_new(call.a)),
+            b'x' => {
+                let n = Args::new(args).long() as usize;
+                let lent = &e[..call.out.min(e.len())];
+                self.fetched(to, eprom::fetch(c, f, mem, lent, n))
+            }
+            b'c' => written(to, closing::closing(c, mem, out)),
+            b'v' => written(to, saved::save(c, mem, out)),
+            b'h' => {
+                let h = hunt::hunt(args, out);
+                print!(to;
+                    " {:02x} {:02x} {:02x} {:08x}",
+                    h.number, h.p, h.left, h.length
+                )
+            }
+            b't' => written(to, tidy::tidy(call.a, args, out)),
+            b'k' => {
+                let r = salvage::salvage(call.a, args, out);
+                print!(to;
+                    " {:02x} {:02x} {:02x} {:02x}",
+                    r.number, r.kept, r.announced, r.end
+                )?;
+                print!(to; " {:08x} {:08x}", r.offset, r.length)
+            }
+            b'y' => sheets::load(to, call, args, out),
+            b'w' => write(to, call, args, out),
+            b'l' => list(to, call, args),
+            b'#' => to.write_all(args),
+            _ => Ok(()),
         }
-        b'v' => {
-            let w = saved::save(c, mem, out);
-            written(to, w.number, w.length)
-        }
-        b'h' => {
-            let h = hunt::hunt(args, out);
-            show::byte(to, h.number)?;
-            show::byte(to, h.p)?;
-            show::byte(to, h.left)?;
-            length(to, h.length)
-        }
-        b't' => {
-            let w = tidy::tidy(call.a, args, out);
-            written(to, w.number, w.length)
-        }
-        b'k' => {
-            let r = salvage::salvage(call.a, args, out);
-            show::byte(to, r.number)?;
-            show::byte(to, r.kept)?;
-            show::byte(to, r.announced)?;
-            show::byte(to, r.end)?;
-            length(to, r.offset)?;
-            length(to, r.length)
-        }
-        b'y' => sheets::load(to, call, args, out),
-        b'w' | b'l' => on_tables(to, call, args, out),
-        b'#' => show::text(to, args),
-        _ => Ok(()),
     }
 }

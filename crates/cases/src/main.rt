@@ -8,9 +8,10 @@ mod sheets;
 mod show;
 
 use crate::calls::Board;
-use crate::script::{Call, call_of, least};
+use crate::script::Call;
+use crate::show::Changes;
 use std::io;
-use std::io::{ErrorKind, Read, Write};
+use std::io::{ErrorKind, Print, Read};
 
 // Memory has room for a chain that is refused for its total alone: four devices of kind 10 and one of kind 0.
 const CELLS: usize = 65576;
@@ -27,133 +28,72 @@ const ROOM: usize = 65536;
 // What stands in the output before the call.
 const LENT: u8 = 0xee;
 
-#[derive(Clone, Copy)]
-struct Next {
-    more: bool,
-    board: Board,
-}
-
-// The letter and the answers, then what the call wrote into the output.
-fn answer(
-    to: &mut impl Write,
-    call: Call,
-    b: Board,
-    args: &[u8],
-    mem: &mut [u8],
-    e: &[u8],
-    out: &mut [u8],
-) -> io::Result<Board> {
-    let blank = [LENT; ROOM];
-    show::text(to, &[call.letter])?;
-    let d = calls::on_board(to, call, b, mem, e, args)?;
-    calls::on_output(to, call, b.chain, mem, args, out)?;
-    show::changes(to, b'>', out, &blank)?;
-    Ok(d)
-}
-
-fn with_output(
-    to: &mut impl Write,
-    call: Call,
-    b: Board,
-    args: &[u8],
-    mem: &mut [u8],
-    e: &[u8],
-) -> io::Result<Board> {
-    let mut out = [LENT; ROOM];
-    let k = least(call.out, ROOM);
-    answer(to, call, b, args, mem, e, &mut out[0..k])
-}
-
 // Whether the input had enough bytes for all of a block; where it has fewer, they stand at its front.
 fn filled(from: &mut impl Read, block: &mut [u8]) -> io::Result<bool> {
     match from.read_exact(block) {
         Ok(()) => Ok(true),
-        Err(e) => {
-            if e.kind() == ErrorKind::UnexpectedEof {
-                Ok(false)
-            } else {
-                Err(e)
-            }
-        }
+        Err(e) if e.kind() == ErrorKind::UnexpectedEof => Ok(false),
+        Err(e) => Err(e),
     }
 }
 
-// The call's arguments, of which the last may be missing; and memory or the EPROM, where it is a call that fills them.
-fn lend(
+// The next call, until the input ends.
+fn next_call(from: &mut impl Read) -> io::Result<Option<Call>> {
+    let mut head = [0; 16];
+    Ok(filled(from, &mut head)?.then(|| Call::from(head)))
+}
+
+// Makes a call with its arguments, of which the last may be missing. The line has its letter and the answers, then what it wrote into the output, then
+// what it changed in memory; where it is a call that fills memory or the EPROM, that comes before.
+fn make(
     from: &mut impl Read,
+    to: &impl Print,
     call: Call,
-    args: &mut [u8],
+    board: &mut Board,
     mem: &mut [u8],
     e: &mut [u8],
 ) -> io::Result<()> {
+    let mut args = [0; ROOM];
+    let args = &mut args[..call.args.min(ROOM)];
     filled(from, args)?;
+    let m = call.mem.min(mem.len());
+    let mem = &mut mem[..m];
     calls::fill(call, mem);
     calls::burn(call, e, args);
-    Ok(())
-}
-
-// A whole line: at its end stands what the call changed in memory.
-fn make(
-    from: &mut impl Read,
-    to: &mut impl Write,
-    call: Call,
-    b: Board,
-    args: &mut [u8],
-    mem: &mut [u8],
-    e: &mut [u8],
-) -> io::Result<Board> {
-    let mut old = [0u8; CELLS];
-    lend(from, call, args, mem, e)?;
+    let mut old = [0; CELLS];
     cells::copy(&mut old, mem);
-    let d = with_output(to, call, b, args, mem, e)?;
-    show::changes(to, b'@', mem, &old)?;
-    show::text(to, b"\n")?;
-    Ok(d)
-}
-
-// Reads one call and makes it with what it is lent.
-fn turn(
-    from: &mut impl Read,
-    to: &mut impl Write,
-    b: Board,
-    mem: &mut [u8],
-    e: &mut [u8],
-) -> io::Result<Next> {
-    let mut head = [0u8; 16];
-    if !filled(from, &mut head)? {
-        return Ok(Next {
-            more: false,
-            board: b,
-        });
-    }
-    let call = call_of(head);
-    let mut args = [0u8; ROOM];
-    let n = least(call.args, ROOM);
-    let m = least(call.mem, mem.len());
-    let d = make(from, to, call, b, &mut args[0..n], &mut mem[0..m], e)?;
-    Ok(Next {
-        more: true,
-        board: d,
-    })
+    let blank = [LENT; ROOM];
+    let mut out = [LENT; ROOM];
+    let out = &mut out[..call.out.min(ROOM)];
+    to.write_all(&[call.letter])?;
+    board.make(to, call, args, mem, e, out)?;
+    let written = Changes {
+        mark: '>',
+        bytes: out,
+        old: &blank,
+    };
+    let stored = Changes {
+        mark: '@',
+        bytes: mem,
+        old: &old,
+    };
+    println!(to; "{written}{stored}")
 }
 
 // Nothing says that the input ends, so the calls are counted down, from more than any script has.
-fn run(from: &mut impl Read, to: &mut impl Write, mem: &mut [u8], e: &mut [u8]) -> io::Result<()> {
-    let mut b = calls::zero();
-    let mut turns = u64::MAX;
-    while turns > 0 {
-        let t = turn(from, to, b, mem, e)?;
-        if !t.more {
+fn run(from: &mut impl Read, to: &impl Print, mem: &mut [u8], e: &mut [u8]) -> io::Result<()> {
+    let mut board = Board::new();
+    for _ in 0..u64::MAX {
+        let Some(call) = next_call(from)? else {
             return Ok(());
-        }
-        b = t.board;
-        turns -= 1;
+        };
+        make(from, to, call, &mut board, mem, e)?;
     }
     Ok(())
 }
 
 fn main(rt: HostRuntime) -> io::Result<()> {
-    let mut mem = [0u8; CELLS];
+    let mut mem = [0; CELLS];
     let mut e = [ERASED; EPROM];
-    run(&mut rt.stdin(), &mut rt.stdout(), &mut mem, &mut e)
+    run(&mut rt.stdin(), &rt, &mut mem, &mut e)
 }

@@ -1,5 +1,4 @@
 // How a script is read: the sixteen bytes that begin each call, and numbers out of its arguments, high byte first and 0 past their end.
-ghost use Rattle.std.specs.Prelude.{◌<◌, ◌≤◌};
 
 // A call: its letter, three small numbers, and how long are the memory, the output, the two tables and the arguments that it is lent.
 #[derive(Clone, Copy)]
@@ -15,82 +14,62 @@ pub struct Call {
     pub args: usize,
 }
 
-pub fn least(a: usize, b: usize) -> usize
-    ensures { (result ≤ a) × (result ≤ b) }
-{
-    if a < b { a } else { b }
-}
-
-// A byte of the arguments.
-pub fn at(s: &[u8], i: usize) -> u8 {
-    if i < s.len() { s[i] } else { 0 }
-}
-
-fn wide(x: u8) -> u32
-    ensures { result < 256 }
-{
-    x as u32
-}
-
-// What is left of the arguments from a byte on.
-pub fn rest(s: &[u8], from: usize) -> &[u8] {
-    let a = least(from, s.len());
-    &s[a..]
-}
-
-pub fn word(s: &[u8]) -> u16 {
-    at(s, 0) as u16 * 256 + at(s, 1) as u16
-}
-
-pub fn long(s: &[u8]) -> u32 {
-    wide(at(s, 0)) * 16777216 + wide(at(s, 1)) * 65536 + wide(at(s, 2)) * 256 + wide(at(s, 3))
-}
-
-pub fn eight(s: &[u8]) -> [u8; 8] {
-    [
-        at(s, 0),
-        at(s, 1),
-        at(s, 2),
-        at(s, 3),
-        at(s, 4),
-        at(s, 5),
-        at(s, 6),
-        at(s, 7),
-    ]
-}
-
-// A table of words, as long as it is.
-pub fn words(s: &[u8], table: &mut [u16]) {
-    let mut i: usize = 0;
-    while i < table.len() {
-        table[i] = word(rest(s, 2 * i));
-        i += 1;
+impl From<[u8; 16]> for Call {
+    fn from(head: [u8; 16]) -> Call {
+        let mut s = Args::new(&head);
+        Call {
+            letter: s.byte(),
+            a: s.byte(),
+            b: s.byte(),
+            c: s.byte(),
+            mem: s.length(),
+            out: s.length(),
+            starts: s.word() as usize,
+            ends: s.word() as usize,
+            args: s.word() as usize,
+        }
     }
 }
 
-// A table of numbers of four bytes.
-pub fn longs(s: &[u8], table: &mut [u32]) {
-    let mut i: usize = 0;
-    while i < table.len() {
-        table[i] = long(rest(s, 4 * i));
-        i += 1;
+// Arguments that are read from the front; past their end stand zeros.
+#[derive(Drop)]
+pub struct Args<'a> {
+    rest: &'a [u8],
+}
+
+impl<'a> Args<'a> {
+    pub fn new(args: &'a [u8]) -> Args<'a> {
+        Args { rest: args }
     }
-}
 
-fn joined(high: u8, middle: u8, low: u8) -> usize {
-    high as usize * 65536 + middle as usize * 256 + low as usize
-}
+    pub fn bytes<const N: usize>(&mut self) -> [u8; N] {
+        let mut next = [0; N];
+        let (front, rest) = self.rest.split_at(N.min(self.rest.len()));
+        cells::copy(&mut next, front);
+        self.rest = rest;
+        next
+    }
 
-pub fn call_of(h: [u8; 16]) -> Call {
-    Call {
-        letter: h[0],
-        a: h[1],
-        b: h[2],
-        c: h[3],
-        mem: joined(h[4], h[5], h[6]),
-        out: joined(h[7], h[8], h[9]),
-        starts: joined(0, h[10], h[11]),
-        ends: joined(0, h[12], h[13]),
-        args: joined(0, h[14], h[15]),
+    pub fn byte(&mut self) -> u8 {
+        u8::from_be_bytes(self.bytes())
+    }
+
+    pub fn word(&mut self) -> u16 {
+        u16::from_be_bytes(self.bytes())
+    }
+
+    pub fn long(&mut self) -> u32 {
+        u32::from_be_bytes(self.bytes())
+    }
+
+    // A length in three bytes.
+    fn length(&mut self) -> usize {
+        let [high, middle, low]: [u8; 3] = self.bytes();
+        u32::from_be_bytes([0, high, middle, low]) as usize
+    }
+
+    // What is left of them.
+    pub fn rest(self) -> &'a [u8] {
+        self.rest
     }
 }

@@ -1,8 +1,10 @@
 // The load sheet, with the streams and the lengths that the script spells; its sums and its rows are printed.
-use crate::script::{Call, least, long, longs, rest};
-use crate::show;
+ghost use Rattle.std.specs.Prelude.{◌<◌, ◌^◌};
+
+use crate::script::{Args, Call};
+use crate::show::{Longs, Rows};
 use std::io;
-use std::io::Write;
+use std::io::Print;
 
 // One length more than a sheet takes, and six figures for each; and room for a short sheet, since most are.
 const LENGTHS: usize = 65537;
@@ -16,79 +18,39 @@ const FEW_FIGURES: usize = 384;
 // What stands in the figures before the call.
 const LENT: u32 = 0xeeeeeeee;
 
-// The first lengths are spelled, and behind them come the streams; the other lengths stay as they are. Of the figures n are lent.
-fn lend(
-    to: &mut impl Write,
+// The call with m lengths and n figures, and room for so many of each. The first lengths are spelled, and behind them come the streams; a length
+// that is not spelled is 0.
+fn in_room<const LENGTHS: usize, const FIGURES: usize>(
+    to: &impl Print,
     call: Call,
-    s: &[u8],
-    lengths: &mut [u32],
-    numbers: &mut [u8],
+    mut args: Args,
+    m: usize,
     n: usize,
-    figures: &mut [u32],
-) -> io::Result<()> {
-    let m = least(call.starts, lengths.len());
-    let k = least(n, figures.len());
-    longs(s, &mut lengths[0..m]);
-    let r = sheet::load_sheet(
-        call.a,
-        call.b,
-        rest(s, 4 * m),
-        lengths,
-        numbers,
-        &mut figures[0..k],
-    );
-    show::byte(to, r.number)?;
-    show::longs(to, &[r.taken, r.data, r.cells, r.again, r.bits, r.edges])?;
-    show::rows(to, &figures[0..k])
-}
-
-fn with_figures(
-    to: &mut impl Write,
-    call: Call,
-    s: &[u8],
-    lengths: &mut [u32],
     numbers: &mut [u8],
-    n: usize,
-) -> io::Result<()> {
+) -> io::Result<()>
+    requires lengths { LENGTHS < 2 ^ 32 }
+    requires figures { FIGURES < 2 ^ 32 }
+{
+    let mut lengths = [0; LENGTHS];
     let mut figures = [LENT; FIGURES];
-    lend(to, call, s, lengths, numbers, n, &mut figures)
+    let lengths = &mut lengths[..m.min(LENGTHS)];
+    let figures = &mut figures[..n.min(FIGURES)];
+    for length in lengths.iter_mut().take(call.starts) {
+        *length = args.long();
+    }
+    let r = sheet::load_sheet(call.a, call.b, args.rest(), lengths, numbers, figures);
+    let sums = [r.taken, r.data, r.cells, r.again, r.bits, r.edges];
+    print!(to; " {:02x}{}{}", r.number, Longs(&sums), Rows(figures))
 }
 
-fn many(
-    to: &mut impl Write,
-    call: Call,
-    s: &[u8],
-    m: usize,
-    numbers: &mut [u8],
-    n: usize,
-) -> io::Result<()> {
-    let mut lengths = [0u32; LENGTHS];
-    let k = least(m, LENGTHS);
-    with_figures(to, call, s, &mut lengths[0..k], numbers, n)
-}
-
-fn few(
-    to: &mut impl Write,
-    call: Call,
-    s: &[u8],
-    m: usize,
-    numbers: &mut [u8],
-    n: usize,
-) -> io::Result<()> {
-    let mut lengths = [0u32; FEW_LENGTHS];
-    let mut figures = [LENT; FEW_FIGURES];
-    let k = least(m, FEW_LENGTHS);
-    lend(to, call, s, &mut lengths[0..k], numbers, n, &mut figures)
-}
-
-// The arguments are how many lengths there are, how many figures are lent, the first lengths, and the streams; a length that is not spelled is 0.
-pub fn load(to: &mut impl Write, call: Call, args: &[u8], numbers: &mut [u8]) -> io::Result<()> {
-    let m = long(args) as usize;
-    let n = long(rest(args, 4)) as usize;
-    let s = rest(args, 8);
+// The arguments are how many lengths there are, how many figures are lent, the first lengths, and the streams.
+pub fn load(to: &impl Print, call: Call, args: &[u8], numbers: &mut [u8]) -> io::Result<()> {
+    let mut args = Args::new(args);
+    let m = args.long() as usize;
+    let n = args.long() as usize;
     if (m <= FEW_LENGTHS) & (n <= FEW_FIGURES) {
-        few(to, call, s, m, numbers, n)
+        in_room::<FEW_LENGTHS, FEW_FIGURES>(to, call, args, m, n, numbers)
     } else {
-        many(to, call, s, m, numbers, n)
+        in_room::<LENGTHS, FIGURES>(to, call, args, m, n, numbers)
     }
 }
