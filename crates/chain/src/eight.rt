@@ -7,8 +7,7 @@ ghost use Rattle.chain.specs.Calls.{first_only};
 pub fn at8(xs: [u8; 8], i: u8) -> u8
     ensures { result ≡ get_or xs i 0 }
 {
-    let k = i as usize;
-    if k < 8 { xs[k] } else { 0 }
+    xs.get(usize::from(i)).copied().unwrap_or(0)
 }
 
 // Eight with one replaced, the same past them.
@@ -16,9 +15,9 @@ pub fn with8(xs: [u8; 8], i: u8, v: u8) -> [u8; 8]
     ensures { result ≡ set xs i v }
 {
     let mut ys = xs;
-    let k = i as usize;
-    if k < 8 {
-        ys[k] = v;
+    let at = usize::from(i);
+    if at < ys.len() {
+        ys[at] = v;
     }
     ys
 }
@@ -27,17 +26,10 @@ pub fn with8(xs: [u8; 8], i: u8, v: u8) -> [u8; 8]
 pub fn unused_zero(xs: [u8; 8], n: u8) -> bool
     ensures { result ≡ unused_zero xs n }
 {
-    let first = n as usize;
-    let mut i: usize = 0;
-    while i < 8 {
-        if i < first {
-            i += 1;
-            continue;
-        }
-        if xs[i] != 0 {
+    for x in &xs[usize::from(n).min(8)..] {
+        if *x != 0 {
             return false;
         }
-        i += 1;
     }
     true
 }
@@ -47,10 +39,6 @@ pub fn first_only(xs: [u8; 8], n: u8) -> [u8; 8]
     ensures { result ≡ first_only n xs }
 {
     let mut ys = xs;
-    let mut i: usize = n as usize;
-    while i < 8 {
-        ys[i] = 0;
-        i += 1;
-    }
+    ys[usize::from(n).min(8)..].fill(0);
     ys
 }

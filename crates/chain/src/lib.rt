@@ -25,7 +25,7 @@ use crate::state::bad_chain;
 // bytes and no bools, since a caller in C may lend any byte, and every one has its answer. The order of the fields is
 // the C layout, and worth a factor of two in speed.
 #[repr(C)]
-#[derive(Clone, Copy)]
+#[derive(Clone, Copy, Default)]
 pub struct Place {
     pub running: u8,
     pub mode: u8,
@@ -43,7 +43,7 @@ pub struct Place {
 
 // The state of a chain: unused kinds and registers are zero, and the open place, if any.
 #[repr(C)]
-#[derive(Clone, Copy)]
+#[derive(Clone, Copy, Default)]
 pub struct Chain {
     pub count: u8,
     pub kinds: [u8; 8],
@@ -72,10 +72,8 @@ impl Made {
     pub fn done(chain: Chain) -> Made
         ensures { result ≡ record { chain = chain; number = done } }
     {
-        Made {
-            chain,
-            number: DONE,
-        }
+        let number = DONE;
+        Made { chain, number }
     }
 
     // The state that is handed back with a refusal's number.
@@ -99,8 +97,8 @@ impl From<Result<usize, Refusal>> for Written {
                 number: DONE,
                 length,
             },
-            Err(refusal) => Written {
-                number: refusal.number(),
+            Err(e) => Written {
+                number: e.number(),
                 length: 0,
             },
         }
@@ -111,48 +109,25 @@ impl From<Result<usize, Refusal>> for Written {
 pub fn closed_place() -> Place
     ensures { result ≡ closed_place }
 {
-    Place {
-        running: CLOSED,
-        mode: 0,
-        check: 0,
-        device: 0,
-        awaited: 0,
-        left: 0,
-        control: 0,
-        start: 0,
-        end: 0,
-        next: 0,
-        taken: 0,
-        mismatches: 0,
-    }
+    Place::default()
 }
 
 // The first kinds of a chain, zero registers, no open run.
 fn fresh(count: u8, kinds: [u8; 8]) -> Chain
     ensures { result ≡ fresh_chain count kinds }
 {
-    let used = first_only(kinds, count);
-    let zero = [0; 8];
-    let none = closed_place();
     Chain {
         count,
-        kinds: used,
-        registers: zero,
-        place: none,
+        kinds: first_only(kinds, count),
+        registers: [0; 8],
+        place: closed_place(),
     }
 }
 
 fn no_chain() -> Chain
     ensures { result ≡ no_chain }
 {
-    let zero = [0; 8];
-    let none = closed_place();
-    Chain {
-        count: 0,
-        kinds: zero,
-        registers: zero,
-        place: none,
-    }
+    Chain::default()
 }
 
 // A new state for devices of these kinds; refused, it is all zero. Memory is left as lent.
@@ -160,45 +135,18 @@ pub fn new(count: u8, kinds: [u8; 8], mem: &[u8]) -> Made
     ensures { New count kinds mem.now result }
 {
     if bad_chain(count, kinds, mem.len()) {
-        let none = no_chain();
-        return Made {
-            chain: none,
-            number: BAD_CHAIN,
-        };
+        return Made::refused(no_chain(), Refusal::BadChain);
     }
-    let chain = fresh(count, kinds);
-    Made {
-        chain,
-        number: DONE,
-    }
-}
-
-fn clear(mem: &mut [u8])
-    ensures { mem.new ≡ replicate (length mem.old) 0 }
-{
-    let n = mem.len();
-    let mut i: usize = 0;
-    while i < n {
-        mem[i] = 0;
-        i += 1;
-    }
+    Made::done(fresh(count, kinds))
 }
 
 // Zeroes memory, all registers and unused kinds and closes the run, whatever it was; refused, all is as lent.
 pub fn reset(c: Chain, mem: &mut [u8]) -> Made
     ensures { Reset c mem.old result mem.new }
 {
-    let ks = c.kinds;
-    if bad_chain(c.count, ks, mem.len()) {
-        return Made {
-            chain: c,
-            number: BAD_CHAIN,
-        };
+    if bad_chain(c.count, c.kinds, mem.len()) {
+        return Made::refused(c, Refusal::BadChain);
     }
-    clear(mem);
-    let chain = fresh(c.count, ks);
-    Made {
-        chain,
-        number: DONE,
-    }
+    mem.fill(0);
+    Made::done(fresh(c.count, c.kinds))
 }

@@ -4,31 +4,28 @@ ghost use Rattle.chain.specs.ByRow.{held, none_open, row_at_preamble, row_at_sec
 ghost use Rattle.chain.specs.Refusal.{answered};
 ghost use Rattle.chain.specs.State.{is_bad_chain, unused_zero, is_well_formed, is_ill_formed, state_number, open_number, feed_number};
 
+use crate::control::Control;
 use crate::eight::{at8, unused_zero};
-use crate::kinds::size_of;
+use crate::kinds::{Kind, size_of};
 use crate::paper::*;
 use crate::refusal::Refusal;
 use crate::{Chain, Place};
 
-// Number 1. A size is looked up once: an unknown kind has none.
+// Number 1.
 pub fn bad_chain(count: u8, kinds: [u8; 8], len: usize) -> bool
     ensures { result ≡ is_bad_chain count kinds len }
 {
     if !((1 <= count) & (count <= MOST_DEVICES)) {
         return true;
     }
-    let n = count as usize;
     let mut total: usize = 0;
-    let mut i: usize = 0;
-    while i < n {
-        let size = size_of(kinds[i]);
-        if size == 0 {
-            return true;
+    for kind in &kinds[..usize::from(count)] {
+        match Kind::try_from(*kind) {
+            Ok(known) => total += usize::from(known.size()),
+            Err(_) => return true,
         }
-        total += size as usize;
-        i += 1;
     }
-    (MOST_MEMORY < total) | !(total == len)
+    (MOST_MEMORY < total) | (total != len)
 }
 
 // What 'Well formed' asks whatever byte is awaited.
@@ -65,15 +62,17 @@ fn at_control(p: Place, h: bool, g: u8) -> bool
 {
     h & (p.control == 0)
         & none_open(p)
-        & !(g / BIT_4 % 2 == 1)
-        & (!(p.check == CHECKING) | !(g / BIT_3 % 2 == 1))
+        & !Control(g).bars_runs()
+        & (!(p.check == CHECKING) | !Control(g).bars_checks())
 }
 
 // The control byte is taken, and no window is open.
 fn outside_windows(p: Place, h: bool, g: u8) -> bool
     ensures { result ≡ outside p h g }
 {
-    h & (p.control == g) & (!(p.check == CHECKING) | !(p.control / BIT_3 % 2 == 1)) & none_open(p)
+    h & (p.control == g)
+        & (!(p.check == CHECKING) | !Control(p.control).bars_checks())
+        & none_open(p)
 }
 
 // A window is open, whose bounds are as they have to be here.
@@ -81,7 +80,7 @@ fn inside_window(p: Place, h: bool, g: u8, bounds: bool) -> bool
     ensures { result ≡ inside p h g bounds }
 {
     h & (p.control == g)
-        & (!(p.check == CHECKING) | !(p.control / BIT_3 % 2 == 1))
+        & (!(p.check == CHECKING) | !Control(p.control).bars_checks())
         & (1 <= p.left)
         & bounds
 }
@@ -117,25 +116,20 @@ fn both_bounds(p: Place, size: u16) -> bool
 }
 
 // The rest of 'Well formed' by awaited byte: h is what holds at every one, g the stored register of the place's device, size its size.
+#[tactic(auto, unfolding(crate::specs::ByRow::formed_by_row))]
 fn by_row(p: Place, h: bool, g: u8, size: u16) -> bool
     ensures { result ≡ formed_by_row p h g size }
 {
-    let a = p.awaited;
-    match a {
+    match p.awaited {
         AT_PREAMBLE => at_preamble(p, h),
         AT_SECOND => at_second(p, h),
         AT_CONTROL => at_control(p, h, g),
-        AT_ADDRESS => outside_windows(p, h, g),
-        AT_ADDRESS2 => outside_windows(p, h, g),
-        AT_ADDRESS3 => outside_windows(p, h, g),
-        AT_COUNT => outside_windows(p, h, g),
-        AT_NULL => inside_window(p, h, g, no_bounds(p)),
-        AT_START => inside_window(p, h, g, no_bounds(p)),
+        AT_ADDRESS | AT_ADDRESS2 | AT_ADDRESS3 | AT_COUNT | AT_CHECK => outside_windows(p, h, g),
+        AT_NULL | AT_START => inside_window(p, h, g, no_bounds(p)),
         AT_START_LOW => inside_window(p, h, g, half_start(p)),
         AT_END => inside_window(p, h, g, start_alone(p, size)),
         AT_END_LOW => inside_window(p, h, g, half_end(p, size)),
         AT_DATA => inside_window(p, h, g, both_bounds(p, size)),
-        AT_CHECK => outside_windows(p, h, g),
         _ => false,
     }
 }
@@ -173,24 +167,6 @@ pub fn ill_formed(c: Chain) -> bool
     !((running == OPENED) & well_formed(c, true))
 }
 
-// What a call that wants a run open gives before it looks at more: 1, 17, 4, or 0. The calls hand their chain on to it whole, as it was
-// lent: were a field of it used beside, a copy would be made first.
-pub fn open_number(c: Chain, len: usize) -> u8
-    ensures { result ≡ open_number c len }
-{
-    let ks = c.kinds;
-    if bad_chain(c.count, ks, len) {
-        return BAD_CHAIN;
-    }
-    if ill_formed(c) {
-        return ILL_FORMED;
-    }
-    if c.place.running == CLOSED {
-        return NO_RUN;
-    }
-    DONE
-}
-
 // What refuses every call on a state: 1, then 17.
 pub fn sound(c: Chain, len: usize) -> Result<(), Refusal>
     ensures { answered result ≡ state_number c len }
@@ -223,20 +199,30 @@ pub fn fed(c: Chain, len: usize) -> Result<(), Refusal>
     open(c, len)
 }
 
-// The same for every call on a state: 1, then 17, or 0.
+// The same as numbers, 0 where nothing refuses the call.
+pub fn open_number(c: Chain, len: usize) -> u8
+    ensures { result ≡ open_number c len }
+{
+    match open(c, len) {
+        Ok(()) => DONE,
+        Err(refusal) => refusal.number(),
+    }
+}
+
 pub fn state_number(c: Chain, len: usize) -> u8
     ensures { result ≡ state_number c len }
 {
-    let n = open_number(c, len);
-    if n == NO_RUN {
-        return DONE;
+    match sound(c, len) {
+        Ok(()) => DONE,
+        Err(refusal) => refusal.number(),
     }
-    n
 }
 
-// The same for a call that feeds bytes.
 pub fn feed_number(c: Chain, len: usize) -> u8
     ensures { result ≡ feed_number c len }
 {
-    open_number(c, len)
+    match fed(c, len) {
+        Ok(()) => DONE,
+        Err(refusal) => refusal.number(),
+    }
 }
