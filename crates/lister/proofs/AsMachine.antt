@@ -11,8 +11,7 @@ use Rattle.chain.specs.Paper.{first_mode, two_preambles, done, too_short}
 use Rattle.chain.specs.Rules.{pick, from}
 use Rattle.chain.specs.Kinds.{size_of}
 use Rattle.machine.specs.Run.{Run}
-use Rattle.reader.specs.declared.stream.Stop.{Stop}
-use Rattle.reader.specs.Stops.{stop}
+use Rattle.reader.specs.Stops.{Stop, stop}
 use Rattle.reader.specs.Stream.{preamble_at, count_at}
 use Rattle.reader.proofs.Runs.{end_of, stored_all}
 use Rattle.reader.proofs.AsMachine.{machine_of, stream_as_machine, stream_stores}

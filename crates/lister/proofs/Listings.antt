@@ -1,6 +1,6 @@
 -- What number 0 of a listing tells, and that the bytes taken fit in 32 bits. Assumes nothing.
 use Prim.Native.Nat.{ℕ, ◌^◌, ◌≤◌, ◌<◌}
-use mathlib.Core.Bool.{not}
+use mathlib.Core.Bool.{true, not}
 use mathlib.Core.Path.{◌≡◌, ◌∙◌}
 use mathlib.Core.List.{List}
 use native.Mathlib.Omega.{arith}
@@ -9,10 +9,22 @@ use lib.Dec.{eqb}
 use Rattle.chain.proofs.Means.{says, reads}
 use Rattle.chain.specs.Paper.{first_mode, two_preambles, done, bad_chain, bad_mode, too_short}
 use Rattle.chain.specs.Rules.{from}
-use Rattle.reader.specs.declared.stream.Stop.{Stop}
+use Rattle.chain.specs.Mode.{mode_number}
+use Rattle.chain.specs.declared.mode.Mode.{Mode}
+use Rattle.chain.specs.declared.mode.Mode.TheVariants.{Upward, Downward, SerialExternal, SerialInternal, EpromInternal, TwoPreambles}
+use Rattle.reader.specs.Stops.{Stop}
 use Rattle.reader.specs.Stream.{preamble_at, count_at, stream_stop}
 use Rattle.reader.proofs.Streams.{passes, row_below, Read, stream-done, stream-below}
 use Rattle.lister.specs.Listing.{any_shorter, list_stop}
+
+-- a mode that has a name is from 1 to 6
+pub mode_named : (m : Mode) (n : ℕ) → mode_number m ≡ n → from first_mode two_preambles n ≡ true
+mode_named Upward n h = rw (← h)
+mode_named Downward n h = rw (← h)
+mode_named SerialExternal n h = rw (← h)
+mode_named SerialInternal n h = rw (← h)
+mode_named EpromInternal n h = rw (← h)
+mode_named TwoPreambles n h = rw (← h)
 
 module _ (size mode : ℕ) (s : List ℕ) (a b c : ℕ) where
   pub record Listable : Type 0 where

@@ -1,5 +1,5 @@
 -- The three tables, one window more filled in. Assumes nothing.
-use Prim.Native.Nat.{ℕ, ◌+◌, ◌-◌, ◌*◌, ◌≤◌, ◌<◌}
+use Prim.Native.Nat.{ℕ, ◌+◌, ◌-◌, ◌*◌, ◌≤◌, ◌<◌, ◌^◌}
 use mathlib.Core.Path.{◌≡◌, refl, sym, ap, ◌∙◌}
 use mathlib.Core.List.{List, [], ◌∷◌, ◌++◌, map}
 use native.Mathlib.Omega.{arith}
@@ -10,84 +10,93 @@ use borrow.Author.Tests.{eq-eqb, ne_eqb, eqb-true, eqb-false}
 use lib.Dec.{eqb}
 use Rattle.cells.proofs.Over.{sets-front}
 use Rattle.chain.proofs.ByCases.{by_test}
+use Rattle.chain.proofs.PassedUp.{not_done}
 use Rattle.chain.specs.Paper.{done}
+use Rattle.chain.specs.Refusal.{number_of}
 use Rattle.chain.specs.Kinds.{size_of}
-use Rattle.reader.specs.declared.stream.Stop.{Stop}
-use Rattle.reader.specs.declared.window.ReadWindow.{ReadWindow}
+use Rattle.reader.specs.declared.stop.Stopped.{Stopped}
+use Rattle.reader.specs.declared.window.WholeWindow.{WholeWindow}
+use Rattle.reader.specs.declared.whole.Windows.{Windows}
 use Rattle.lister.specs.declared.Listed.{Listed}
-use Rattle.reader.specs.Stops.{if_done}
-use Rattle.reader.specs.Windows.{read_window_of, windows_stop, windows_of}
+use Rattle.std.specs.Prelude.{Err}
+use Rattle.reader.specs.Stops.{Stop, stop, stop_of, if_done}
+use Rattle.reader.specs.Windows.{ReadWindow, windows_stop, windows_of, whole_of}
+use Rattle.reader.specs.Walk.{Next, windows_left}
 use Rattle.reader.specs.Stream.{preamble_at, count_at}
 use Rattle.lister.specs.Listing.{list_stop, listed_of, listing_of, starts_of, ends_of, offsets_of, listed, listing, Lists}
-use Rattle.reader.proofs.Windows.{Whole, windows-first, windows-list-none, windows-length, next_is, reach}
-use Rattle.lister.proofs.Listings.{list_done}
+use Rattle.reader.proofs.Windows.{windows-length}
+use Rattle.reader.proofs.Walking.{left_none, left_more, next_near, next_past}
+use Rattle.lister.proofs.Listings.{list_done, list-below}
 
 -- what is left to write from i on gives the whole table
 one_more_lem : (f : ReadWindow → ℕ) (whole now : List ℕ) (i : ℕ) (w : ReadWindow) (ws rest : List ReadWindow) → ws ≡ w ∷ rest
     → whole ≡ sets now i (map f ws) → whole ≡ sets (set now i (f w)) (i + 1) (map f rest)
 one_more_lem f whole now i w ws rest e h = h ∙ rw (e, add-one i)
 
-module _ (size : ℕ) (s : List ℕ) (n p : ℕ) (starts₀ ends₀ offsets₀ : List ℕ) where
-  pub record Filling (starts ends offsets : List ℕ) (at i : ℕ) : Type 0 where
-    pub inside : i ≤ n
-    pub near : at ≤ 7 + 65540 * i
-    pub sound : (windows_stop size s (n - i) at).number ≡ done
+module _ (all : Windows) (p : ℕ) (starts₀ ends₀ offsets₀ : List ℕ) where
+  -- i windows are in the tables, and ws are left
+  pub record Filling (starts ends offsets : List ℕ) (ws : Windows) (i : ℕ) : Type 0 where
+    pub same_size : ws.size ≡ all.size
+    pub count : ws.left + i ≡ all.left
+    pub past_head : p + 6 ≤ ws.at
+    pub near : ws.at ≤ p + 6 + 65540 * i
     pub starts_long : length starts ≡ length starts₀
     pub ends_long : length ends ≡ length ends₀
     pub offsets_long : length offsets ≡ length offsets₀
-    pub starts-rest : sets starts₀ 0 (starts_of (windows_of size s n (p + 6))) ≡ sets starts i (starts_of (windows_of size s (n - i) at))
-    pub ends-rest : sets ends₀ 0 (ends_of (windows_of size s n (p + 6))) ≡ sets ends i (ends_of (windows_of size s (n - i) at))
-    pub offsets-rest : sets offsets₀ 0 (offsets_of p (windows_of size s n (p + 6))) ≡ sets offsets i (offsets_of p (windows_of size s (n - i) at))
+    pub starts-rest : sets starts₀ 0 (starts_of (windows_left all)) ≡ sets starts i (starts_of (windows_left ws))
+    pub ends-rest : sets ends₀ 0 (ends_of (windows_left all)) ≡ sets ends i (ends_of (windows_left ws))
+    pub offsets-rest : sets offsets₀ 0 (offsets_of p (windows_left all)) ≡ sets offsets i (offsets_of p (windows_left ws))
 
-  pub filling_none : p ≤ 1 → (windows_stop size s n (p + 6)).number ≡ done → Filling starts₀ ends₀ offsets₀ (p + 6) 0
-  filling_none h z =
-      let e : n - 0 ≡ n = omega arith in
+  pub filling_none : all.at ≡ p + 6 → Filling starts₀ ends₀ offsets₀ all 0
+  filling_none h =
       record {
-        inside = omega arith;
+        same_size = refl;
+        count = omega arith;
+        past_head = omega arith;
         near = omega arith;
-        sound = rw e z;
         starts_long = refl;
         ends_long = refl;
         offsets_long = refl;
-        starts-rest = rw e;
-        ends-rest = rw e;
-        offsets-rest = rw e;
+        starts-rest = refl;
+        ends-rest = refl;
+        offsets-rest = refl;
       }
 
-module _ {size : ℕ} {s : List ℕ} {n p : ℕ} {starts₀ ends₀ offsets₀ starts ends offsets : List ℕ} {at i : ℕ}
-    (f : Filling size s n p starts₀ ends₀ offsets₀ starts ends offsets at i) where
-  -- the window at hand
-  pub filling_whole : i < n → Whole size s at
-  filling_whole h = (windows-first size s (n - i) at (omega arith) f.sound).0
+  module _ (starts ends offsets : List ℕ) (ws : Windows) (i : ℕ) (f : Filling starts ends offsets ws i) where
+    pub filling_more : ws.size ≤ 65535 → (w : WholeWindow) (rest : Windows) → Next ws w rest
+        → Filling (set starts i w.bounds.start) (set ends i w.bounds.end) (set offsets i (w.first - p)) rest (i + 1)
+    filling_more l w rest x =
+        let g = left_more ws w rest x in
+        let k = next_near ws w rest x l in
+        record {
+          same_size = x.same_size ∙ f.same_size;
+          count = omega (arith, x.one_less);
+          past_head = omega (arith, next_past ws w rest x);
+          near = omega arith;
+          starts_long = length-set starts i w.bounds.start ∙ f.starts_long;
+          ends_long = length-set ends i w.bounds.end ∙ f.ends_long;
+          offsets_long = length-set offsets i (w.first - p) ∙ f.offsets_long;
+          starts-rest = one_more_lem (λ (v : ReadWindow). v.start) _ starts i (whole_of w) _ _ g f.starts-rest;
+          ends-rest = one_more_lem (λ (v : ReadWindow). v.end) _ ends i (whole_of w) _ _ g f.ends-rest;
+          offsets-rest = one_more_lem (λ (v : ReadWindow). v.first - p) _ offsets i (whole_of w) _ _ g f.offsets-rest;
+        }
 
-  pub filling_more : size ≤ 65535 → i < n → (r : ReadWindow) → r ≡ read_window_of size s at
-      → Filling size s n p starts₀ ends₀ offsets₀ (set starts i r.start) (set ends i r.end) (set offsets i (r.first - p)) r.next (i + 1)
-  filling_more l h r e =
-      let w = windows-first size s (n - i) at (omega arith) f.sound in
-      let o : n - i - 1 ≡ n - (i + 1) = omega arith in
-      let g : windows_of size s (n - i) at ≡ r ∷ windows_of size s (n - (i + 1)) r.next = w.1 ∙ rw (e, o) in
-      record {
-        inside = omega arith;
-        near = omega (arith, next_near r e l);
-        sound = rw (← e, o) at w.2;
-        starts_long = length-set starts i r.start ∙ f.starts_long;
-        ends_long = length-set ends i r.end ∙ f.ends_long;
-        offsets_long = length-set offsets i (r.first - p) ∙ f.offsets_long;
-        starts-rest = one_more_lem (λ (w : ReadWindow). w.start) _ starts i r _ _ g f.starts-rest;
-        ends-rest = one_more_lem (λ (w : ReadWindow). w.end) _ ends i r _ _ g f.ends-rest;
-        offsets-rest = one_more_lem (λ (w : ReadWindow). w.first - p) _ offsets i r _ _ g f.offsets-rest;
-      }
-    where
-      next_near : (r : ReadWindow) → r ≡ read_window_of size s at → size ≤ 65535 → r.next ≤ at + 65540
-      next_near r e l = rw (e, next_is size s at) (let k = reach size s at in omega arith)
+    pub filling_all : ws.left ≡ 0 → (starts ≡ sets starts₀ 0 (starts_of (windows_left all)))
+        × (ends ≡ sets ends₀ 0 (ends_of (windows_left all))) × (offsets ≡ sets offsets₀ 0 (offsets_of p (windows_left all)))
+    filling_all h =
+        let e = left_none ws h in
+        (sym (f.starts-rest ∙ rw e), sym (f.ends-rest ∙ rw e), sym (f.offsets-rest ∙ rw e))
 
-  pub filling_all : n ≤ i → (starts ≡ sets starts₀ 0 (starts_of (windows_of size s n (p + 6))))
-      × ((ends ≡ sets ends₀ 0 (ends_of (windows_of size s n (p + 6)))) × (offsets ≡ sets offsets₀ 0 (offsets_of p (windows_of size s n (p + 6)))))
-  filling_all h =
-      let e : windows_of size s (n - i) at ≡ [] = windows-list-none size s (n - i) at (omega arith) in
-      (sym (f.starts-rest ∙ rw e), (sym (f.ends-rest ∙ rw e), sym (f.offsets-rest ∙ rw e)))
+-- ---- the call: nothing filled in, or all of it. size and p are what its parts answered
 
--- ---- the call: nothing filled in, or all of it. size, p, e and r are what its parts answered
+-- what filling the tables asks
+pub record MayFill (s starts ends offsets : List ℕ) (size p taken : ℕ) : Type 0 where
+  pub there : p + 6 ≤ length s
+  pub sound : (windows_stop size s (count_at s p) (p + 6)).number ≡ done
+  pub starts_fit : count_at s p ≤ length starts
+  pub ends_fit : count_at s p ≤ length ends
+  pub offsets_fit : count_at s p ≤ length offsets
+  pub small : taken < 2 ^ 32
 
 module _ (size : ℕ) (s : List ℕ) (p : ℕ) (e : Stop) where
   listing_none : (e.number ≡ done → ⊥) → listing_of size s p e ≡ []
@@ -98,53 +107,46 @@ module _ (size : ℕ) (s : List ℕ) (p : ℕ) (e : Stop) where
   unfolding listing_of
   listing-all h = rw (eq-eqb e.number done h)
 
-module _ (kind mode : ℕ) (s starts ends offsets : List ℕ) (size p : ℕ) (e : Stop) (r : Listed) (sz : size ≡ size_of kind) (pa : p ≡ preamble_at mode)
-    (ls : e ≡ list_stop size mode s (length starts) (length ends) (length offsets)) (an : r ≡ listed_of s p e) where
-  number_is : r.number ≡ e.number
-  unfolding listed_of
-  number_is = ap (λ (x : Listed). x.number) an
+module _ (kind mode : ℕ) (s starts ends offsets : List ℕ) (size p : ℕ) (sz : size ≡ size_of kind) (pa : p ≡ preamble_at mode) where
+  -- where the reading stops
+  abbrev stops : Stop → Type 0
+  stops e = e ≡ list_stop size mode s (length starts) (length ends) (length offsets)
 
-  windows_are : r.number ≡ done → r.windows ≡ count_at s p
-  unfolding listed_of
-  windows_are h =
-      let z : e.number ≡ done = sym number_is ∙ h in
-      ap (λ (x : Listed). x.windows) an ∙ rw (eq-eqb e.number done z)
-
-  is_answer : r ≡ listed_of s (preamble_at mode) (listed kind mode s starts ends offsets)
-  is_answer = an ∙ rw (ls, sz, pa)
-
-  is_listing : listing kind mode s starts ends offsets ≡ listing_of size s p e
-  is_listing = rw (ls, sz, pa)
-
-  pub lists_none : (r.number ≡ done → ⊥) → Lists kind mode s starts ends offsets r starts ends offsets
-  lists_none h =
-      let f = is_listing ∙ listing_none size s p e (λ z. h (number_is ∙ z)) in
-      record { answer = is_answer; starts_left = rw f; ends_left = rw f; offsets_left = rw f }
-
-  -- what filling the tables asks
-  pub may_fill : p ≤ 1 → r.number ≡ done
-      → ((windows_stop size s r.windows (p + 6)).number ≡ done) × (r.windows ≤ 255)
-      × (r.windows ≤ length starts) × (r.windows ≤ length ends) × (r.windows ≤ length offsets)
-  may_fill q h =
-      let d = list_done size mode s (length starts) (length ends) (length offsets) (ap (λ (x : Stop). x.number) (sym ls) ∙ sym number_is ∙ h) in
-      let n = windows_are h in
-      let a = d.starts_fit in
-      let b = d.ends_fit in
-      let c = d.offsets_fit in
-      rw (n, pa) (d.read.windows, omega arith, a, b, c)
-
-  pub lists_all : (starts' ends' offsets' : List ℕ) → r.number ≡ done
-      → (starts' ≡ sets starts 0 (starts_of (windows_of size s r.windows (p + 6))))
-      × ((ends' ≡ sets ends 0 (ends_of (windows_of size s r.windows (p + 6)))) × (offsets' ≡ sets offsets 0 (offsets_of p (windows_of size s r.windows (p + 6)))))
-      → Lists kind mode s starts ends offsets r starts' ends' offsets'
-  lists_all starts' ends' offsets' h f =
-      let g : windows_of size s r.windows (p + 6) ≡ listing kind mode s starts ends offsets =
-      ap (λ (n : ℕ). windows_of size s n (p + 6)) (windows_are h) ∙ sym (is_listing ∙ listing-all size s p e (sym number_is ∙ h)) in
+  pub lists_none : (e : Stopped) (r : Listed) → stops (stop_of (Err e))
+      → r ≡ record { number = number_of e.refusal; windows = 0; control = 0; address = 0 ∷ 0 ∷ 0 ∷ []; taken = e.taken }
+      → Lists kind mode s starts ends offsets r starts ends offsets
+  unfolding listed_of listing_of
+  lists_none e r ls an =
       record {
-        answer = is_answer;
-        starts_left = f.0 ∙ rw g;
-        ends_left = f.1.0 ∙ rw g;
-        offsets_left = f.1.1 ∙ rw (g, pa);
+        answer = an ∙ simp (← sz, ← pa, ← ls, not_done);
+        starts_left = simp (← sz, ← pa, ← ls, not_done);
+        ends_left = simp (← sz, ← pa, ← ls, not_done);
+        offsets_left = simp (← sz, ← pa, ← ls, not_done);
+      }
+
+  pub may_fill : (taken : ℕ) → size ≤ 65535 → stops (stop done taken) → MayFill s starts ends offsets size p taken
+  may_fill taken l ls =
+      let d = list_done size mode s (length starts) (length ends) (length offsets) (sym (ap (λ (e : Stop). e.number) ls)) in
+      rw pa
+      (record {
+        there = d.read.head;
+        sound = d.read.windows;
+        starts_fit = d.starts_fit;
+        ends_fit = d.ends_fit;
+        offsets_fit = d.offsets_fit;
+        small = rw (ap (λ (e : Stop). e.taken) ls) (list-below size mode s (length starts) (length ends) (length offsets) l);
+      })
+
+  pub lists_all : (taken : ℕ) (r : Listed) → stops (stop done taken) → r ≡ listed_of s p (stop done taken)
+      → Lists kind mode s starts ends offsets r (sets starts 0 (starts_of (windows_of size s (count_at s p) (p + 6))))
+      (sets ends 0 (ends_of (windows_of size s (count_at s p) (p + 6)))) (sets offsets 0 (offsets_of p (windows_of size s (count_at s p) (p + 6))))
+  unfolding listing_of
+  lists_all taken r ls an =
+      record {
+        answer = an ∙ rw (← sz, ← pa, ← ls);
+        starts_left = rw (← sz, ← pa, ← ls);
+        ends_left = rw (← sz, ← pa, ← ls);
+        offsets_left = rw (← sz, ← pa, ← ls);
       }
 
 -- ---- what the promise says of the tables: the windows listed, as many as are answered, and the rest as lent

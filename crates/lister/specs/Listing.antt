@@ -4,10 +4,8 @@ use Rattle.std.proofs.lemmas.List.Edits.{sets}
 use Rattle.chain.specs.Paper.{first_mode, two_preambles, done, bad_chain, bad_mode, too_short}
 use Rattle.chain.specs.Rules.{pick, from}
 use Rattle.chain.specs.Kinds.{size_of}
-use Rattle.reader.specs.declared.stream.Stop.{Stop}
-use Rattle.reader.specs.declared.window.ReadWindow.{ReadWindow}
-use Rattle.reader.specs.Stops.{Row, ◌gives◌after◌, first_stop, if_done}
-use Rattle.reader.specs.Windows.{windows_of}
+use Rattle.reader.specs.Stops.{Stop, Row, ◌gives◌after◌, first_stop, if_done}
+use Rattle.reader.specs.Windows.{ReadWindow, windows_of}
 use Rattle.reader.specs.Stream.{preamble_at, head_length, control_at, count_at, stream_stop}
 use Rattle.lister.specs.declared.Listed.{Listed}
 

@@ -2,7 +2,7 @@
 use Rattle.std.proofs.Common.{ℕ, ◌≡◌, ap, ◌∙◌, List, ◌++◌, length, take, drop}
 use Rattle.std.proofs.lemmas.List.{length-map}
 use Rattle.std.proofs.Math.Seq.{take_at}
-use Rattle.reader.specs.declared.window.ReadWindow.{ReadWindow}
+use Rattle.reader.specs.Windows.{ReadWindow}
 use Rattle.lister.specs.declared.Listed.{Listed}
 use Rattle.reader.specs.Stream.{preamble_at}
 use Rattle.lister.specs.Listing.{listed_of, starts_of, ends_of, listed, listing, Lists}

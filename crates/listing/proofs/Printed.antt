@@ -11,8 +11,7 @@ use Rattle.chain.specs.Paper.{preamble, postamble, first_mode, two_preambles, do
 use Rattle.chain.specs.Rules.{pick, from}
 use Rattle.chain.specs.Kinds.{size_of}
 use Rattle.hunt.specs.Hunt.{nowhere, found_at}
-use Rattle.reader.specs.declared.stream.Stop.{Stop}
-use Rattle.reader.specs.Stops.{stop, ◌then◌}
+use Rattle.reader.specs.Stops.{Stop, stop, ◌then◌}
 use Rattle.reader.specs.Windows.{window_stop, windows_stop}
 use Rattle.reader.specs.Stream.{preamble_at, control_at, count_at, head_stop, check_stop, stream_stop}
 use Rattle.lister.specs.Listing.{list_stop}

@@ -4,9 +4,8 @@ use Rattle.chain.specs.Paper.{first_mode, serial, two_preambles, bad_chain, bad_
 use Rattle.chain.specs.Rules.{pick, from}
 use Rattle.chain.specs.Kinds.{size_of}
 use Rattle.hunt.specs.Hunt.{nowhere, found_at, hunted_bytes, hunt_of}
-use Rattle.reader.specs.declared.stream.Stop.{Stop}
-use Rattle.reader.specs.declared.window.ReadWindow.{ReadWindow}
-use Rattle.reader.specs.Stops.{Row, ◌gives◌after◌, first_stop}
+use Rattle.reader.specs.Windows.{ReadWindow}
+use Rattle.reader.specs.Stops.{Stop, Row, ◌gives◌after◌, first_stop}
 use Rattle.reader.specs.Stream.{preamble_at}
 use Rattle.lister.specs.Listing.{list_stop, listing_of, starts_of, ends_of}
 use Rattle.listing.specs.Lines.{letter_A, letter_L, letter_W, line_of}

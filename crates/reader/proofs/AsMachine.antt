@@ -21,8 +21,7 @@ use Rattle.awaited.specs.Byte.{number_of, advance_of}
 use Rattle.machine.specs.Run.{Run, run, memory_of, registers_of, missed_of, ended, step_of, run_of}
 use Rattle.machine.specs.Calls.{opened_place}
 use Rattle.machine.proofs.Feed.{run_at, run_end}
-use Rattle.reader.specs.declared.stream.Stop.{Stop}
-use Rattle.reader.specs.Stops.{stop, ◌then◌}
+use Rattle.reader.specs.Stops.{Stop, stop, ◌then◌}
 use Rattle.reader.specs.Windows.{windows_stop, windows_of}
 use Rattle.reader.specs.Stream.{preamble_at, control_at, count_at, head_stop, check_stop, stream_stop}
 use Rattle.reader.proofs.Windows.{windows-inside}

@@ -15,8 +15,7 @@ use Rattle.chain.specs.Bytes.{Bytes}
 use Rattle.chain.specs.Calls.{first_only}
 use Rattle.machine.specs.Run.{Run, run, run_of}
 use Rattle.machine.proofs.Feed.{run_end}
-use Rattle.reader.specs.declared.stream.Stop.{Stop}
-use Rattle.reader.specs.Stops.{stop}
+use Rattle.reader.specs.Stops.{Stop, stop}
 use Rattle.reader.specs.Windows.{start_at, end_at, next_at, window_stop, windows_stop, windows_of}
 use Rattle.reader.specs.Stream.{preamble_at, control_at, count_at, head_stop}
 use Rattle.reader.proofs.Windows.{Whole, is_whole, whole, windows-next, windows_forward}

@@ -11,8 +11,7 @@ use Rattle.chain.specs.Calls.{no_chain}
 use Rattle.grammar.specs.Stream.{Window}
 use Rattle.grammar.specs.Fits.{Fits, AllFit}
 use Rattle.grammar.proofs.SectionBytes.{section_bytes, stream-bytes}
-use Rattle.reader.specs.declared.window.ReadWindow.{ReadWindow}
-use Rattle.reader.specs.Windows.{start_at, end_at, read_window_of, windows_stop, windows_of}
+use Rattle.reader.specs.Windows.{ReadWindow, start_at, end_at, read_window_of, windows_stop, windows_of}
 use Rattle.reader.proofs.Windows.{Whole, windows-first}
 use Rattle.reader.specs.Given.{window_in, windows_at, with_head, stream_with}
 

@@ -1,7 +1,9 @@
+pub mod Stopping
 pub mod Windows
 pub mod Streams
 pub mod Runs
 pub mod AsMachine
 pub mod FrontParts
 pub mod Given
+pub mod Walking
 pub mod Only

@@ -22,10 +22,8 @@ use Rattle.machine.specs.Run.{Run, run, address_of, memory_of, registers_of, mis
 use Rattle.machine.specs.Block.{misses_of, laid_of}
 use Rattle.machine.proofs.Feed.{run_at, run_end, run-over, run_part}
 use Rattle.machine.proofs.Block.{block, block_of}
-use Rattle.reader.specs.declared.stream.Stop.{Stop}
-use Rattle.reader.specs.declared.window.ReadWindow.{ReadWindow}
-use Rattle.reader.specs.Stops.{stop, ◌then◌}
-use Rattle.reader.specs.Windows.{start_at, end_at, next_at, window_stop, read_window_of, windows_stop, windows_of}
+use Rattle.reader.specs.Stops.{Stop, stop, ◌then◌}
+use Rattle.reader.specs.Windows.{ReadWindow, start_at, end_at, next_at, window_stop, read_window_of, windows_stop, windows_of}
 use Rattle.reader.proofs.Windows.{ways, is_whole, whole-next}
 
 -- ---- any run

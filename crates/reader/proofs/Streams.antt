@@ -1,19 +1,21 @@
 -- What number 0 of a stream tells, and how many bytes are taken at most. Assumes nothing.
 use Prim.Native.Nat.{ℕ, ◌+◌, ◌≤◌, ◌<◌}
-use mathlib.Core.Bool.{Bool, true, false, not, ◌&&◌, and-false}
+use mathlib.Core.Bool.{Bool, true, false, not, ◌&&◌, and-false, true≢false}
 use mathlib.Core.Path.{◌≡◌, sym, ap, ◌∙◌}
 use mathlib.Core.List.{List}
 use native.Mathlib.Omega.{arith}
-use borrow.Author.Tests.{lt-ltb, ltb-true, ltb-false, leb-true, eqb-true, eqb-false}
+use borrow.Author.Tests.{lt-ltb, ltb-true, ltb-false, leb-true, leb-false, eqb-true, eqb-false}
 use lib.Dec.{eqb, ltb, leb}
+use Rattle.std.specs.Prelude.{Err}
 use lib.ListN.{length, get_or}
 use Rattle.chain.proofs.ByCases.{by_test}
 use Rattle.chain.specs.Paper.{preamble, postamble, two_preambles, done, no_preamble, bad_check_byte, ends_here, last_device, more, B2}
 use Rattle.chain.specs.Rules.{pick}
-use Rattle.reader.specs.declared.stream.Stop.{Stop}
-use Rattle.reader.specs.Stops.{stop, ◌then◌}
+use Rattle.reader.specs.declared.stop.Stopped.{Stopped}
+use Rattle.reader.specs.Stops.{Stop, stop, stop_of, ◌then◌}
 use Rattle.reader.specs.Windows.{windows_stop}
-use Rattle.reader.specs.Stream.{preamble_at, control_at, count_at, head_stop, check_stop, stream_stop}
+use Rattle.reader.specs.Stream.{preamble_at, control_at, count_at, preamble_stop, head_stop, check_stop, stream_stop}
+use Rattle.reader.proofs.Stopping.{ended}
 use Rattle.reader.proofs.Windows.{windows_reach}
 
 -- ---- rows
@@ -93,6 +95,31 @@ module _ (mode : ℕ) (s : List ℕ) where
       (row_below (eqb mode two_preambles && ltb 1 (length s) && not (eqb (get_or s 1 0) preamble)) no_preamble 2 _ (preamble_at mode + 6) (λ y. omega arith)
       (row_below (ltb (length s) (preamble_at mode + 6)) more (length s) (stop done (preamble_at mode + 6)) (preamble_at mode + 6)
       (λ y. let l = ltb-true (length s) (preamble_at mode + 6) y in omega arith) (omega arith)))
+
+-- one preamble read: it is there, and what stops there stops the head
+pub preamble_there : (s : List ℕ) (at t : ℕ) → preamble_stop s at ≡ stop done t → (at < length s) × (eqb (get_or s at 0) preamble ≡ true)
+preamble_there s at t h =
+    by_test (leb (length s) at) (λ y. absurd (omega (arith, ap (λ (e : Stop). e.number) (rw y at h))))
+    (λ y. by_test (eqb (get_or s at 0) preamble) (λ z. (leb-false (length s) at y, z))
+    (λ z. absurd (omega (arith, ap (λ (e : Stop). e.number) (rw (y, z) at h)))))
+
+module _ (mode : ℕ) (s : List ℕ) (e : Stopped) where
+  pub head_first : stop_of (Err e) ≡ preamble_stop s 0 → stop_of (Err e) ≡ head_stop mode s
+  head_first is =
+      is
+      ∙ by_test (leb (length s) 0)
+      (λ y. let z : length s ≡ 0 = omega (arith, leb-true (length s) 0 y) in rw (head-none mode s z, z))
+      (λ y. by_test (eqb (get_or s 0 0) preamble) (λ z. let k : eqb (preamble_stop s 0).number done ≡ false = ended e _ is in absurd (true≢false (rw (y, z) at k)))
+      (λ z. rw (y, z, head_bad mode s (leb-false (length s) 0 y) z)))
+
+  pub head_second : 0 < length s → eqb (get_or s 0 0) preamble ≡ true → eqb mode two_preambles ≡ true → stop_of (Err e) ≡ preamble_stop s 1
+      → stop_of (Err e) ≡ head_stop mode s
+  head_second l f o is =
+      is
+      ∙ by_test (leb (length s) 1)
+      (λ y. let z : length s ≡ 1 = omega (arith, leb-true (length s) 1 y) in rw (head_no_second mode s l f o z, z))
+      (λ y. by_test (eqb (get_or s 1 0) preamble) (λ z. let k : eqb (preamble_stop s 1).number done ≡ false = ended e _ is in absurd (true≢false (rw (y, z) at k)))
+      (λ z. rw (y, z, head_bad_second mode s l f o (leb-false (length s) 1 y) z)))
 
 check-below : (control : ℕ) (s : List ℕ) (at : ℕ) → (check_stop control s at).taken ≤ at + 1
 unfolding check_stop

@@ -7,15 +7,17 @@ use native.Mathlib.Omega.{arith}
 use borrow.Author.Tests.{lt-ltb, le-ltb, le-leb, lt-leb, ltb-true, ltb-false, leb-true, leb-false, eqb-true, eqb-false}
 use lib.Dec.{eqb, ltb, leb}
 use lib.ListN.{length}
+use Rattle.std.specs.Prelude.{Err}
 use Rattle.chain.proofs.ByCases.{by_test}
+use Rattle.chain.proofs.PassedUp.{not_done}
 use Rattle.chain.proofs.Means.{Means, says, reads}
 use Rattle.chain.specs.Paper.{done, bad_start, bad_end, more}
 use Rattle.chain.specs.Rules.{pick}
 use Rattle.chain.specs.Window.{start_outside, end_outside}
-use Rattle.reader.specs.declared.stream.Stop.{Stop}
-use Rattle.reader.specs.declared.window.ReadWindow.{ReadWindow}
-use Rattle.reader.specs.Stops.{stop}
-use Rattle.reader.specs.Windows.{start_at, end_at, next_at, window_stop, read_window_of, windows_stop, windows_of}
+use Rattle.reader.specs.declared.stop.Stopped.{Stopped}
+use Rattle.reader.specs.declared.window.WholeWindow.{WholeWindow}
+use Rattle.reader.specs.Stops.{Stop, stop, stop_of}
+use Rattle.reader.specs.Windows.{ReadWindow, start_at, end_at, next_at, window_stop, read_window_of, windows_stop, windows_of, whole_of, read_of}
 
 -- ---- the ways in which one window is read
 
@@ -143,6 +145,13 @@ module _ (size : ℕ) (s : List ℕ) where
   windows-more (suc n) at h =
       let o : suc n - 1 ≡ n = omega arith in
       rw o
+
+  -- the first of them is not whole, or it is and the others are left
+  pub windows_ended : (e : Stopped) (n at : ℕ) → 0 < n → read_of (Err e) ≡ read_window_of size s at → stop_of (Err e) ≡ windows_stop size s n at
+  windows_ended e n at h is = sym (windows-more n at h ∙ rw (← is, not_done e.refusal))
+
+  pub windows_on : (w : WholeWindow) (n at : ℕ) → 0 < n → whole_of w ≡ read_window_of size s at → windows_stop size s n at ≡ windows_stop size s (n - 1) w.next
+  windows_on w n at h is = windows-more n at h ∙ rw (← is)
 
   pub windows-none : (n at : ℕ) → n ≤ 0 → windows_stop size s n at ≡ stop done at
   unfolding windows_stop

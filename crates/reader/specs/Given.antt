@@ -6,8 +6,7 @@ use Rattle.chain.specs.Window.{width_of}
 use Rattle.grammar.specs.Sent.{bytes_of}
 use Rattle.grammar.specs.Stream.{Window, Section, lead_sent, last_sent}
 use Rattle.grammar.specs.Tables.{window_of}
-use Rattle.reader.specs.declared.window.ReadWindow.{ReadWindow}
-use Rattle.reader.specs.Windows.{windows_of}
+use Rattle.reader.specs.Windows.{ReadWindow, windows_of}
 use Rattle.reader.specs.Stream.{head_length, control_at, count_at}
 
 -- a window that was read in the stream s, with its data, and the null byte 00

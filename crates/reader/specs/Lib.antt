@@ -2,3 +2,4 @@ pub mod Stops
 pub mod Windows
 pub mod Stream
 pub mod Given
+pub mod Walk

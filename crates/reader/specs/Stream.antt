@@ -2,8 +2,7 @@
 use Rattle.std.specs.Prelude.{ℕ, ◌+◌, ◌-◌, not, ◌&&◌, List, [], ◌∷◌, length, get_or, eqb, ltb, leb}
 use Rattle.chain.specs.Paper.{preamble, postamble, two_preambles, no_preamble, bad_check_byte, ends_here, last_device, done, more, B2}
 use Rattle.chain.specs.Rules.{pick}
-use Rattle.reader.specs.declared.stream.Stop.{Stop}
-use Rattle.reader.specs.Stops.{stop, Row, ◌gives◌after◌, first_stop, ◌then◌}
+use Rattle.reader.specs.Stops.{Stop, stop, Row, ◌gives◌after◌, first_stop, ◌then◌}
 use Rattle.reader.specs.Windows.{windows_stop}
 
 -- where the preamble stands that precedes the control byte: mode 6 has one before it
@@ -31,6 +30,16 @@ head_rows mode s =
 
 unfoldable pub head_stop : ℕ → List ℕ → Stop
 head_stop mode s = first_stop (head_rows mode s) (stop done (preamble_at mode + head_length))
+
+-- one preamble
+abbrev pub preamble_rows : List ℕ → ℕ → List Row
+preamble_rows s at =
+    (leb (length s) at gives more after (length s))
+    ∷ (not (eqb (get_or s at 0) preamble) gives no_preamble after (at + 1))
+    ∷ []
+
+abbrev pub preamble_stop : List ℕ → ℕ → Stop
+preamble_stop s at = first_stop (preamble_rows s at) (stop done (at + 1))
 
 -- the check byte of the only device: 16, 8, 9, 10, and 4D accepts
 abbrev pub check_rows : ℕ → List ℕ → ℕ → List Row

@@ -1,11 +1,20 @@
 -- Windows of a stream, each read at the position of its null byte: null, start (high, low), end (high, low), data. Assumes nothing.
-use Rattle.std.specs.Prelude.{ℕ, zero, suc, ◌+◌, ◌&&◌, List, [], ◌∷◌, length, get_or, eqb, ltb, leb}
+use Rattle.std.specs.Prelude.{ℕ, zero, suc, ◌+◌, ◌&&◌, List, [], ◌∷◌, length, get_or, eqb, ltb, leb, Result, Ok, Err}
 use Rattle.chain.specs.Paper.{done, bad_start, bad_end, more}
+use Rattle.chain.specs.Refusal.{number_of}
 use Rattle.chain.specs.Rules.{pick}
 use Rattle.chain.specs.Window.{word, width_of, start_outside, end_outside}
-use Rattle.reader.specs.declared.stream.Stop.{Stop}
-use Rattle.reader.specs.declared.window.ReadWindow.{ReadWindow}
-use Rattle.reader.specs.Stops.{stop, Row, ◌gives◌after◌, first_stop, ◌then◌, if_done}
+use Rattle.reader.specs.declared.stop.Stopped.{Stopped}
+use Rattle.reader.specs.declared.window.WholeWindow.{WholeWindow}
+use Rattle.reader.specs.Stops.{Stop, stop, Row, ◌gives◌after◌, first_stop, ◌then◌, if_done}
+
+-- one window as it is read: a number, 0 where it is whole, its bounds, and the positions of its first data byte and after its last
+pub record ReadWindow : Type 0 where
+  pub number : ℕ
+  pub start : ℕ
+  pub end : ℕ
+  pub first : ℕ
+  pub next : ℕ
 
 abbrev pub start_at : List ℕ → ℕ → ℕ
 start_at s at = word (get_or s (at + 1) 0) (get_or s (at + 2) 0)
@@ -52,3 +61,11 @@ unfoldable pub windows_of : ℕ → List ℕ → ℕ → ℕ → List ReadWindow
 windows_of size s zero at = []
 windows_of size s (suc n) at =
     pick (eqb (window_stop size s at).number done) (read_window_of size s at ∷ windows_of size s n (next_at s at)) []
+
+-- a window that is whole, as it is read; and what the reading of one answers
+abbrev pub whole_of : WholeWindow → ReadWindow
+whole_of w = record { number = done; start = w.bounds.start; end = w.bounds.end; first = w.first; next = w.next }
+
+abbrev pub read_of : Result WholeWindow Stopped → ReadWindow
+read_of (Ok w) = whole_of w
+read_of (Err e) = record { number = number_of e.refusal; start = 0; end = 0; first = 0; next = e.taken }

@@ -1,70 +1,47 @@
 // One window of a stream, read where its null byte stands. Its data is skipped, so that a stream is read by its windows.
 ghost use Rattle.std.specs.Prelude.{◌≡◌, ◌-◌};
-ghost use Rattle.reader.specs.Windows.{read_window_of};
+ghost use Rattle.reader.specs.Windows.{read_window_of, read_of};
 
-use chain::paper::*;
-use chain::window::{pair, width};
+use crate::stop::Stopped;
+use chain::refusal::Refusal;
+use chain::window::{Window, pair};
 
-// The window's bounds, the position of its first data byte, and the position after its last. Where the number is not 0
-// the first three are 0, and next is the position after the refused byte, or the length of a stream that is used up.
-#[derive(Clone, Copy)]
-pub struct ReadWindow {
-    pub number: u8,
-    pub start: u16,
-    pub end: u16,
+// A window that is whole: its bounds, the position of its first data byte, and the position after its last.
+#[derive(Clone, Copy, Debug, PartialEq, Eq)]
+pub struct WholeWindow {
+    pub bounds: Window,
     pub first: usize,
     pub next: usize,
 }
 
-// How many bytes stand from a position on, 0 past the end.
-fn rest(len: usize, at: usize) -> usize
-    ensures { result ≡ len - at }
+// The window whose null byte is awaited at a position, where it is whole.
+pub fn read_window(size: u16, s: &[u8], at: usize) -> Result<WholeWindow, Stopped>
+    ensures { read_of result ≡ read_window_of size s.now at }
 {
-    if at <= len { len - at } else { 0 }
-}
-
-fn stopped(number: u8, next: usize) -> ReadWindow
-    ensures { result ≡ record { number = number; start = 0; end = 0; first = 0; next = next } }
-{
-    ReadWindow {
-        number,
-        start: 0,
-        end: 0,
-        first: 0,
-        next,
-    }
-}
-
-// The window whose null byte is awaited at a position: 0 where it is whole, 11, 12, or 16 where the stream is used up.
-pub fn read_window(size: u16, s: &[u8], at: usize) -> ReadWindow
-    ensures { result ≡ read_window_of size s.now at }
-{
-    let n = s.len();
-    let left = rest(n, at);
+    let left = s.len().saturating_sub(at);
     if left < 3 {
-        return stopped(MORE, n);
+        return Err(Stopped::used_up(s));
     }
     let start = pair(s[at + 1], s[at + 2]);
     if size <= start {
-        return stopped(BAD_START, at + 3);
+        return Err(Stopped::refused(Refusal::BadStart, at + 3));
     }
     if left < 5 {
-        return stopped(MORE, n);
+        return Err(Stopped::used_up(s));
     }
     let end = pair(s[at + 3], s[at + 4]);
     if (end < start) | !(end < size) {
-        return stopped(BAD_END, at + 5);
+        return Err(Stopped::refused(Refusal::BadEnd, at + 5));
     }
-    let cells = width(start, end);
+    let bounds = Window { start, end };
+    let cells = bounds.width();
     if left - 5 < cells {
-        return stopped(MORE, n);
+        return Err(Stopped::used_up(s));
     }
     let first = at + 5;
-    ReadWindow {
-        number: DONE,
-        start,
-        end,
+    Ok(WholeWindow {
+        bounds,
         first,
         next: first + cells,
-    }
+    })
 }

@@ -14,17 +14,14 @@ use Rattle.chain.specs.Paper.{preamble, first_mode, done, bad_chain, no_preamble
 use Rattle.chain.specs.Rules.{pick}
 use Rattle.chain.specs.Kinds.{size_of}
 use Rattle.chain.specs.Output.{over}
-use Rattle.reader.specs.declared.stream.Stop.{Stop}
-use Rattle.reader.specs.declared.window.ReadWindow.{ReadWindow}
-use Rattle.reader.specs.Stops.{stop, ◌then◌}
-use Rattle.reader.specs.Windows.{windows_stop, windows_of}
+use Rattle.reader.specs.Stops.{Stop, stop, ◌then◌}
+use Rattle.reader.specs.Windows.{ReadWindow, windows_stop, windows_of}
 use Rattle.reader.specs.Stream.{preamble_at, head_length, control_at, count_at, check_stop, stream_stop}
 use Rattle.reader.specs.Given.{window_in, windows_at, given_of, stream_with}
 use Rattle.reader.proofs.Streams.{head-one}
 use Rattle.salvage.specs.declared.Salvaged.{Salvaged}
-use Rattle.salvage.specs.declared.Kept.{Kept}
 use Rattle.salvage.specs.Salvage.{after_all, offset_of, salvaged, salvage_number, Salvages}
-use Rattle.salvage.specs.Steps.{kept_of, reaches_of, end_of, laid_over}
+use Rattle.salvage.specs.Steps.{Kept, kept_of, reaches_of, end_of, laid_over}
 use Rattle.salvage.proofs.WholeWindows.{alone, few}
 use Rattle.salvage.proofs.Laying.{after-taken, Ready, there as within, long, reach_ends, count, ends_with_postamble, stored}
 

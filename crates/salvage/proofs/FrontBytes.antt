@@ -8,8 +8,7 @@ use lib.Seq.{take_at}
 use Rattle.chain.specs.Paper.{postamble}
 use Rattle.grammar.specs.Stream.{Window}
 use Rattle.grammar.proofs.SectionBytes.{windows_bytes, nulled_long}
-use Rattle.reader.specs.declared.window.ReadWindow.{ReadWindow}
-use Rattle.reader.specs.Windows.{windows_of}
+use Rattle.reader.specs.Windows.{ReadWindow, windows_of}
 use Rattle.reader.specs.Stream.{head_length}
 use Rattle.reader.specs.Given.{windows_at, stream_with}
 use Rattle.reader.proofs.Given.{with_bytes}

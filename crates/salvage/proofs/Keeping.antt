@@ -9,12 +9,10 @@ use lib.ListN.{length, get_or, set, drop, length-set, drop_of_length-le}
 use lib.Seq.{sets, drop-cons}
 use Rattle.chain.specs.Paper.{done}
 use Rattle.grammar.specs.Tables.{null_byte}
-use Rattle.reader.specs.declared.window.ReadWindow.{ReadWindow}
-use Rattle.reader.specs.Windows.{next_at, window_stop, read_window_of, windows_of}
+use Rattle.reader.specs.Windows.{ReadWindow, next_at, window_stop, read_window_of, windows_of}
 use Rattle.reader.specs.Stream.{head_length}
 use Rattle.reader.proofs.Windows.{is_whole, number_is, windows-more, windows-none, windows-list-none}
-use Rattle.salvage.specs.declared.Kept.{Kept}
-use Rattle.salvage.specs.Steps.{kept_of, reaches_of, end_of, nulls_out}
+use Rattle.salvage.specs.Steps.{Kept, kept_of, reaches_of, end_of, nulls_out}
 
 -- ---- kept
 
@@ -96,9 +94,9 @@ module _ (size : ℕ) (s : List ℕ) (n : ℕ) (table₀ : List ℕ) where
             noted = f.noted ∙ rw (w, add-one k);
           }
 
-  pub keeping_all : (table : List ℕ) (at k : ℕ) → Keeping table at k → n ≤ k → Kept_all (kept done k at) table
+  pub keeping_all : (table : List ℕ) (at k : ℕ) → Keeping table at k → n ≤ k → Kept_all (kept done n at) table
   keeping_all table at k f h =
-      let o : k + 0 ≡ k = omega arith in
+      let o : k + 0 ≡ n = omega (arith, f.inside) in
       let w : windows_of size s (n - k) at ≡ [] = windows-list-none size s (n - k) at (omega arith) in
       (sym (f.rest ∙ ap (ahead k) (kept-none size s (n - k) at (omega arith)) ∙ rw o), sym (f.noted ∙ rw w))
 

@@ -11,10 +11,8 @@ use Rattle.grammar.specs.Stream.{Window}
 use Rattle.grammar.specs.Tables.{null_byte, nulled}
 use Rattle.grammar.proofs.SectionBytes.{windows_bytes, nulled_long}
 use Rattle.chain.proofs.Over.{copied}
-use Rattle.reader.specs.declared.stream.Stop.{Stop}
-use Rattle.reader.specs.declared.window.ReadWindow.{ReadWindow}
-use Rattle.reader.specs.Stops.{stop}
-use Rattle.reader.specs.Windows.{windows_stop, windows_of}
+use Rattle.reader.specs.Stops.{Stop, stop}
+use Rattle.reader.specs.Windows.{ReadWindow, windows_stop, windows_of}
 use Rattle.reader.specs.Stream.{head_length}
 use Rattle.reader.specs.Given.{window_in, windows_at, stream_with}
 use Rattle.reader.proofs.Windows.{windows-length}

@@ -9,8 +9,7 @@ use Rattle.chain.specs.Window.{word, width_of}
 use Rattle.grammar.specs.Stream.{Window}
 use Rattle.grammar.specs.Tables.{null_byte, nulled}
 use Rattle.grammar.proofs.SectionBytes.{window_bytes, windows_bytes}
-use Rattle.reader.specs.declared.window.ReadWindow.{ReadWindow}
-use Rattle.reader.specs.Windows.{start_at, end_at, next_at, read_window_of, windows_of}
+use Rattle.reader.specs.Windows.{ReadWindow, start_at, end_at, next_at, read_window_of, windows_of}
 use Rattle.reader.proofs.Windows.{Whole}
 use Rattle.salvage.specs.Salvage.{after_all}
 use Rattle.salvage.specs.Steps.{reaches_of, end_of, nulls_out}

@@ -13,10 +13,8 @@ use Rattle.chain.specs.Window.{width_of}
 use Rattle.grammar.specs.Stream.{Window}
 use Rattle.grammar.specs.Fits.{AllFit}
 use Rattle.grammar.specs.Tables.{nulled}
-use Rattle.reader.specs.declared.stream.Stop.{Stop}
-use Rattle.reader.specs.declared.window.ReadWindow.{ReadWindow}
-use Rattle.reader.specs.Stops.{stop}
-use Rattle.reader.specs.Windows.{next_at, window_stop, read_window_of, windows_stop, windows_of}
+use Rattle.reader.specs.Stops.{Stop, stop}
+use Rattle.reader.specs.Windows.{ReadWindow, next_at, window_stop, read_window_of, windows_stop, windows_of}
 use Rattle.reader.specs.Given.{window_in}
 use Rattle.reader.proofs.Windows.{Whole, is_whole, whole-next, windows-inside}
 use Rattle.reader.proofs.Given.{windows_fit}

@@ -4,8 +4,7 @@ use Rattle.chain.specs.Paper.{preamble, first_mode, done, bad_chain, no_preamble
 use Rattle.chain.specs.Rules.{Rule, ◌gives◌, first_of}
 use Rattle.chain.specs.Kinds.{size_of}
 use Rattle.chain.specs.Output.{on_done, output_of}
-use Rattle.reader.specs.declared.window.ReadWindow.{ReadWindow}
-use Rattle.reader.specs.Windows.{windows_of}
+use Rattle.reader.specs.Windows.{ReadWindow, windows_of}
 use Rattle.reader.specs.Stream.{head_length, count_at, stream_stop}
 use Rattle.reader.specs.Given.{given_of, stream_with}
 use Rattle.salvage.specs.declared.Salvaged.{Salvaged}

@@ -1,14 +1,30 @@
 -- For the contracts of private helpers; no promise cites it. Windows kept one after another, how far each reaches, and what is laid into the output.
 -- Assumes nothing.
-use Rattle.std.specs.Prelude.{ℕ, ◌+◌, ◌-◌, List, [], ◌∷◌, map, length, set, take}
+use Rattle.std.specs.Prelude.{ℕ, ◌+◌, ◌-◌, List, [], ◌∷◌, map, length, set, take, Result, Ok, Err}
 use Rattle.std.proofs.lemmas.List.Edits.{sets}
 use Rattle.chain.specs.Paper.{postamble, no_windows}
 use Rattle.grammar.specs.Tables.{null_byte}
-use Rattle.reader.specs.declared.window.ReadWindow.{ReadWindow}
-use Rattle.reader.specs.Windows.{windows_stop, windows_of}
+use Rattle.reader.specs.Windows.{ReadWindow, windows_stop, windows_of}
 use Rattle.reader.specs.Stream.{head_length}
-use Rattle.salvage.specs.declared.Kept.{Kept}
+use Rattle.chain.specs.declared.refusal.Refusal.{Refusal}
+use Rattle.chain.specs.Refusal.{number_of, answered}
+use Rattle.salvage.specs.declared.Front.{Front}
+use Rattle.salvage.specs.declared.Salvaged.{Salvaged}
 use Rattle.salvage.specs.Salvage.{after_all}
+
+-- how many windows are kept, the byte after the last, and the number that the next one gives, 0 where all announced are kept
+pub record Kept : Type 0 where
+  pub number : ℕ
+  pub windows : ℕ
+  pub offset : ℕ
+
+abbrev pub kept_in : Front → Kept
+kept_in f = record { number = answered f.next; windows = f.windows; offset = f.offset }
+
+-- a refusal is answered by its number alone
+abbrev pub answer_of : Result Salvaged Refusal → Salvaged
+answer_of (Ok r) = r
+answer_of (Err e) = record { number = number_of e; kept = 0; announced = 0; end = 0; offset = 0; length = 0 }
 
 -- of n windows from a position on, those before the first that is not whole, and the number that tells why no other is kept
 abbrev pub kept_of : ℕ → List ℕ → ℕ → ℕ → Kept

@@ -1,18 +1,20 @@
 // Salvage: the whole windows of a stream, be it accepted, refused or broken off, written as a sound stream, and a list of what was changed.
 #![tactic(auto)]
 
-ghost use Rattle.std.specs.Prelude.{◌≡◌, ◌≤◌, ◌<◌, eqb, length, take};
+ghost use Rattle.std.specs.Prelude.{◌≡◌, ◌≤◌, ◌<◌, eqb, length};
 ghost use Rattle.std.proofs.lemmas.List.Edits.{sets};
 ghost use Rattle.chain.specs.Paper.{done};
+ghost use Rattle.chain.specs.Refusal.{answered, number_of};
 ghost use Rattle.chain.specs.Rules.{pick};
 ghost use Rattle.reader.specs.Windows.{windows_of};
 ghost use Rattle.reader.specs.Stream.{head_length, check_stop};
 ghost use Rattle.salvage.specs.Salvage.{Salvages};
-ghost use Rattle.salvage.specs.Steps.{kept_of, reaches_of, end_of, nulls_out, laid_over};
+ghost use Rattle.salvage.specs.Steps.{kept_in, answer_of, kept_of, reaches_of, end_of, nulls_out, laid_over};
 
 use cells::copy;
-use chain::kinds::size_of;
+use chain::kinds::Kind;
 use chain::paper::*;
+use chain::refusal::Refusal;
 use reader::stream::{HEAD_LENGTH, check};
 use reader::window::read_window;
 
@@ -30,19 +32,19 @@ pub struct Salvaged {
     pub length: usize,
 }
 
-// How many windows are kept, the byte after the last, and the number that the next one gives, 0 where all announced are kept.
+// The windows that are kept: how many they are, the byte after the last, and why the next is not, where more were announced.
 #[derive(Clone, Copy)]
-struct Kept {
-    number: u8,
+struct Front {
     windows: u8,
     offset: usize,
+    next: Result<(), Refusal>,
 }
 
-fn refused(number: u8) -> Salvaged
-    ensures { result ≡ record { number = number; kept = 0; announced = 0; end = 0; offset = 0; length = 0 } }
+fn refused(refusal: Refusal) -> Salvaged
+    ensures { result ≡ record { number = number_of refusal; kept = 0; announced = 0; end = 0; offset = 0; length = 0 } }
 {
     Salvaged {
-        number,
+        number: refusal.number(),
         kept: 0,
         announced: 0,
         end: 0,
@@ -53,42 +55,44 @@ fn refused(number: u8) -> Salvaged
 
 // Windows one after another, before the first that is not whole. How far each reaches past its first cell is noted: to find a window waits for the one
 // before it to be read, and so none is read twice.
-fn keep(size: u16, s: &[u8], n: u8, reaches: &mut [u16]) -> Kept
+fn keep(size: u16, s: &[u8], n: u8, reaches: &mut [u16]) -> Front
     requires { n ≤ length reaches.old }
-    ensures { (result ≡ kept_of size s.now n head_length)
-        × (reaches.new ≡ sets reaches.old 0 (reaches_of (windows_of size s.now n head_length))) }
+    ensures front_value { kept_in result ≡ kept_of size s.now n head_length }
+    ensures reaches_after { reaches.new ≡ sets reaches.old 0 (reaches_of (windows_of size s.now n head_length)) }
 {
-    let mut at = HEAD_LENGTH;
-    let mut windows: u8 = 0;
-    while windows < n {
-        let w = read_window(size, s, at);
-        if w.number != DONE {
-            return Kept {
-                number: w.number,
-                windows,
-                offset: at,
-            };
+    let mut offset = HEAD_LENGTH;
+    for windows in 0..n {
+        match read_window(size, s, offset) {
+            Ok(w) => {
+                reaches[windows as usize] = w.bounds.end - w.bounds.start;
+                offset = w.next;
+            }
+            Err(e) => {
+                let next = Err(e.refusal);
+                return Front {
+                    windows,
+                    offset,
+                    next,
+                };
+            }
         }
-        reaches[windows as usize] = w.end - w.start;
-        at = w.next;
-        windows += 1;
     }
-    Kept {
-        number: DONE,
-        windows,
-        offset: at,
+    Front {
+        windows: n,
+        offset,
+        next: Ok(()),
     }
 }
 
-// How the stream ended: the number that the window not kept gives, or the check byte.
-fn end_number(number: u8, control: u8, s: &[u8], offset: usize) -> u8
-    ensures { result ≡ pick (eqb number done) (check_stop control s.now offset).number number }
+// How the stream ended: why the next window was not kept, or what the check byte says.
+fn ended(front: Front, control: u8, s: &[u8]) -> Result<(), Refusal>
+    ensures { answered result ≡ pick (eqb (answered front.next) done) (check_stop control s.now front.offset).number (answered front.next) }
 {
-    if number != DONE {
-        return number;
+    front.next?;
+    match check(control, s, front.offset) {
+        Ok(_) => Ok(()),
+        Err(e) => Err(e.refusal),
     }
-    let e = check(control, s, offset);
-    e.number
 }
 
 // Null bytes 00, where windows stand one after another that reach so far past their first cells.
@@ -97,55 +101,60 @@ fn nulls_out(reaches: &[u16], out: &mut [u8])
     ensures { out.new ≡ nulls_out head_length reaches.now out.old }
 {
     let mut at = HEAD_LENGTH;
-    let mut i: usize = 0;
-    while i < reaches.len() {
+    for reach in reaches {
         out[at] = NULL;
-        at += 6 + reaches[i] as usize;
-        i += 1;
+        at += 6 + usize::from(*reach);
     }
 }
 
-// The sound stream of n windows of s, which end before offset. They stand there where they stand in s, so that one copy takes them all.
-fn put(s: &[u8], n: u8, reaches: &[u16], offset: usize, out: &mut [u8])
-    requires { (n ≤ length reaches.now) × (5 < offset) × (offset ≤ length s.now) × (offset < length out.old)
-        × (end_of head_length (take n reaches.now) ≤ offset) }
-    ensures { out.new ≡ laid_over s.now n (take n reaches.now) offset out.old }
+// The sound stream of the windows of s that reach so far, which end before offset. They stand there where they stand in s, so that one copy takes them all.
+fn put(s: &[u8], reaches: &[u16], offset: usize, out: &mut [u8])
+    requires { (length reaches.now ≤ 255) × (5 < offset) × (offset ≤ length s.now) × (offset < length out.old)
+        × (end_of head_length reaches.now ≤ offset) }
+    ensures { out.new ≡ laid_over s.now (length reaches.now) reaches.now offset out.old }
 {
     copy(out, &s[..offset]);
-    out[5] = NO_WINDOWS - n;
-    nulls_out(&reaches[..n as usize], out);
+    out[5] = NO_WINDOWS - reaches.len() as u8;
+    nulls_out(reaches, out);
     out[offset] = POSTAMBLE;
+}
+
+fn mended(kind: u8, s: &[u8], out: &mut [u8]) -> Result<Salvaged, Refusal>
+    ensures { Salvages kind s.now out.old (answer_of result) out.new }
+{
+    let size = Kind::try_from(kind)?.size();
+    if s.len() < HEAD_LENGTH {
+        return Err(Refusal::NoHead);
+    }
+    if s[0] != PREAMBLE {
+        return Err(Refusal::NoPreamble);
+    }
+    let announced = 255 - s[5];
+    let mut reaches = [0u16; 255];
+    let front = keep(size, s, announced, &mut reaches);
+    let offset = front.offset;
+    if out.len() <= offset {
+        return Err(Refusal::TooShort);
+    }
+    let end = match ended(front, s[1], s) {
+        Ok(()) => DONE,
+        Err(refusal) => refusal.number(),
+    };
+    let kept = front.windows;
+    put(s, &reaches[..kept as usize], offset, out);
+    Ok(Salvaged {
+        number: DONE,
+        kept,
+        announced,
+        end,
+        offset,
+        length: offset + 1,
+    })
 }
 
 // Keeps what is whole of a stream in mode 1 for one device.
 pub fn salvage(kind: u8, s: &[u8], out: &mut [u8]) -> Salvaged
     ensures { Salvages kind s.now out.old result out.new }
 {
-    let size = size_of(kind);
-    if size == 0 {
-        return refused(BAD_CHAIN);
-    }
-    if s.len() < HEAD_LENGTH {
-        return refused(NO_HEAD);
-    }
-    if s[0] != PREAMBLE {
-        return refused(NO_PREAMBLE);
-    }
-    let announced = 255 - s[5];
-    let mut reaches = [0u16; 255];
-    let k = keep(size, s, announced, &mut reaches);
-    let offset = k.offset;
-    if out.len() <= offset {
-        return refused(TOO_SHORT);
-    }
-    let end = end_number(k.number, s[1], s, offset);
-    put(s, k.windows, &reaches, offset, out);
-    Salvaged {
-        number: DONE,
-        kept: k.windows,
-        announced,
-        end,
-        offset,
-        length: offset + 1,
-    }
+    mended(kind, s, out).unwrap_or_else(refused)
 }

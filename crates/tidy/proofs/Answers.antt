@@ -13,7 +13,7 @@ use Rattle.chain.specs.Paper.{first_mode, done, bad_chain, too_short}
 use Rattle.chain.specs.Kinds.{size_of}
 use Rattle.chain.specs.Output.{over, Writes}
 use Rattle.chain.proofs.Sizes.{size_most}
-use Rattle.reader.specs.declared.stream.Stop.{Stop}
+use Rattle.reader.specs.Stops.{Stop}
 use Rattle.reader.specs.Windows.{windows_stop}
 use Rattle.reader.specs.Stream.{preamble_at, head_length, count_at, stream_stop}
 use Rattle.reader.proofs.Streams.{stream-done}

@@ -7,8 +7,7 @@ use native.Mathlib.Numerals.{add-one}
 use lib.ListN.{length, take, drop, get_or}
 use lib.Seq.{sets}
 use Rattle.chain.specs.Paper.{done}
-use Rattle.reader.specs.declared.window.ReadWindow.{ReadWindow}
-use Rattle.reader.specs.Windows.{read_window_of, windows_stop}
+use Rattle.reader.specs.Windows.{ReadWindow, read_window_of, windows_stop}
 use Rattle.reader.specs.Stream.{head_length}
 use Rattle.reader.proofs.Windows.{windows-first, windows-list-none}
 use Rattle.reader.specs.Given.{windows_at}

@@ -14,7 +14,7 @@ use cells::copy;
 use chain::paper::*;
 use chain::window::width;
 use reader::stream::HEAD_LENGTH;
-use reader::window::read_window;
+use reader::whole::Windows;
 
 const NULL: u8 = 0x00;
 
@@ -78,19 +78,18 @@ fn put(at: usize, bytes: &[u8], out: &mut [u8])
 }
 
 // The data of n windows that are known to be whole, in the stream's order, each from its place.
-fn paint(size: u16, s: &[u8], n: usize, places: &[u16], out: &mut [u8])
+fn paint(size: u16, s: &[u8], n: u8, places: &[u16], out: &mut [u8])
     requires { ((windows_stop size s.now n head_length).number ≡ done) × (n ≤ length places.now) }
     ensures { out.new ≡ paint_all places.now 0 (windows_at size s.now n head_length) out.old }
 {
-    let mut at = HEAD_LENGTH;
-    let mut i: usize = 0;
-    while i < n {
-        let w = read_window(size, s, at);
-        let first = w.first;
-        let next = w.next;
-        put(places[i] as usize, &s[first..next], out);
-        at = next;
-        i += 1;
+    let windows = Windows {
+        size,
+        s,
+        left: n,
+        at: HEAD_LENGTH,
+    };
+    for (i, w) in windows.enumerate() {
+        put(places[i] as usize, &s[w.first..w.next], out);
     }
 }
 
@@ -98,7 +97,7 @@ fn paint(size: u16, s: &[u8], n: usize, places: &[u16], out: &mut [u8])
 pub(crate) fn stream(
     size: u16,
     s: &[u8],
-    n: usize,
+    n: u8,
     xs: &[u32],
     places: &[u16],
     end: usize,

@@ -20,7 +20,7 @@ use reader::stream::read_stream;
 fn write(
     size: u16,
     s: &[u8],
-    n: usize,
+    n: u8,
     table: &mut [u32],
     places: &mut [u16],
     out: &mut [u8],
@@ -28,7 +28,7 @@ fn write(
     requires { ReadWhole size s.now n (length table.old) (length places.old) }
     ensures { Writes (room_number (length (tidied size s.now)) (length out.old)) (tidied size s.now) out.old result out.new }
 {
-    let m = spans::gather(size, s, &mut table[..n], places);
+    let m = spans::gather(size, s, &mut table[..n as usize], places);
     let end = 6 + spans::long(&table[..m]);
     if out.len() <= end {
         return Written {
@@ -54,15 +54,15 @@ pub fn tidy(kind: u8, s: &[u8], out: &mut [u8]) -> Written
             length: 0,
         };
     }
-    let e = read_stream(size, FIRST_MODE, s);
-    if e.number != DONE {
-        return Written {
-            number: e.number,
+    match read_stream(size, FIRST_MODE, s) {
+        Err(e) => Written {
+            number: e.refusal.number(),
             length: 0,
-        };
+        },
+        Ok(_) => {
+            let mut table = [0u32; 255];
+            let mut places = [0u16; 256];
+            write(size, s, 255 - s[5], &mut table, &mut places, out)
+        }
     }
-    let mut table = [0u32; 255];
-    let mut places = [0u16; 256];
-    let n = (255 - s[5]) as usize;
-    write(size, s, n, &mut table, &mut places, out)
 }

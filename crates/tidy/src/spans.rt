@@ -11,7 +11,7 @@ ghost use Rattle.tidy.specs.Steps.{decoded, spans_in, keys_of, ends_of, Gathered
 use crate::sort::sort;
 use chain::window::width;
 use reader::stream::HEAD_LENGTH;
-use reader::window::read_window;
+use reader::whole::Windows;
 
 fn code(start: u16, end: u16) -> u32
     ensures { decoded result ≡ span start end }
@@ -38,14 +38,15 @@ fn collect(size: u16, s: &[u8], xs: &mut [u32], ends: &mut [u16])
         × (xs.new ≡ keys_of 0 (windows_at size s.now (length xs.old) head_length))
         × (take (length xs.old) ends.new ≡ ends_of (windows_at size s.now (length xs.old) head_length)) }
 {
-    let mut at = HEAD_LENGTH;
-    let mut i: usize = 0;
-    while i < xs.len() {
-        let w = read_window(size, s, at);
-        xs[i] = w.start as u32 * 256 + i as u32;
-        ends[i] = w.end;
-        at = w.next;
-        i += 1;
+    let windows = Windows {
+        size,
+        s,
+        left: xs.len() as u8,
+        at: HEAD_LENGTH,
+    };
+    for (i, w) in windows.enumerate() {
+        xs[i] = w.bounds.start as u32 * 256 + i as u32;
+        ends[i] = w.bounds.end;
     }
 }
 

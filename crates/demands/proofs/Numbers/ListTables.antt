@@ -26,9 +26,8 @@ use Rattle.machine.specs.declared.Fed.{Fed}
 use Rattle.machine.proofs.Runs.{step_number}
 use Rattle.grammar.proofs.Runs.Slices.{slice_runs, slice_number_lem}
 use Rattle.machine.proofs.Feed.{first_on, first_off}
-use Rattle.reader.specs.declared.stream.Stop.{Stop}
 use Rattle.lister.specs.declared.Listed.{Listed}
-use Rattle.reader.specs.Stops.{stop}
+use Rattle.reader.specs.Stops.{Stop, stop}
 use Rattle.reader.specs.Stream.{preamble_at, count_at, stream_stop}
 use Rattle.lister.specs.Listing.{any_shorter, list_stop, listed_of, listing_of, listed, Lists}
 use Rattle.reader.proofs.AsMachine.{stream_as_machine}

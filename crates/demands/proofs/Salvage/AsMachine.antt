@@ -20,9 +20,8 @@ use Rattle.chain.proofs.Bytes.{bytes-at}
 use Rattle.chain.proofs.FirstOf.{first-none}
 use Rattle.machine.specs.Run.{Run}
 use Rattle.grammar.proofs.Runs.Slices.{fed-number, fed-more}
-use Rattle.reader.specs.declared.stream.Stop.{Stop}
-use Rattle.reader.specs.declared.window.ReadWindow.{ReadWindow}
-use Rattle.reader.specs.Windows.{windows_of}
+use Rattle.reader.specs.Stops.{Stop}
+use Rattle.reader.specs.Windows.{ReadWindow, windows_of}
 use Rattle.reader.specs.Stream.{preamble_at, count_at, head_stop}
 use Rattle.reader.specs.Given.{window_in, given_of}
 use Rattle.reader.proofs.Streams.{head-one}

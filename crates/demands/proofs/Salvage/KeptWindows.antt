@@ -15,8 +15,7 @@ use Rattle.grammar.specs.Sent.{bytes_of}
 use Rattle.grammar.specs.Stream.{Window, stream_sent}
 use Rattle.grammar.specs.Fits.{AllFit, SectionFits}
 use Rattle.grammar.specs.Tables.{cells, nulled}
-use Rattle.reader.specs.declared.window.ReadWindow.{ReadWindow}
-use Rattle.reader.specs.Windows.{windows_of}
+use Rattle.reader.specs.Windows.{ReadWindow, windows_of}
 use Rattle.reader.specs.Stream.{head_length, count_at}
 use Rattle.reader.specs.Given.{window_in, given_of}
 use Rattle.salvage.specs.Salvage.{offset_of, salvaged}

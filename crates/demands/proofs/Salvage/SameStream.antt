@@ -18,7 +18,7 @@ use Rattle.grammar.specs.Stream.{Section, stream_sent}
 use Rattle.grammar.specs.Fits.{SectionFits}
 use Rattle.grammar.specs.Tables.{nulls_off}
 use Rattle.grammar.proofs.SectionBytes.{windows_bytes, stream-bytes, nulled_long}
-use Rattle.reader.specs.declared.stream.Stop.{Stop}
+use Rattle.reader.specs.Stops.{Stop}
 use Rattle.reader.specs.Windows.{windows_stop, windows_of}
 use Rattle.reader.specs.Stream.{head_length, count_at, stream_stop}
 use Rattle.reader.specs.Given.{given_of}

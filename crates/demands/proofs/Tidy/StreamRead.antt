@@ -8,7 +8,7 @@ use lib.ListN.{length, length-append}
 use Rattle.chain.specs.declared.Chain.{Chain}
 use Rattle.chain.specs.Paper.{preamble, postamble, no_windows, first_mode, done}
 use Rattle.chain.specs.Kinds.{size_of, base_of}
-use Rattle.reader.specs.declared.stream.Stop.{Stop}
+use Rattle.reader.specs.Stops.{Stop}
 use Rattle.reader.specs.Windows.{windows_of}
 use Rattle.reader.specs.Stream.{preamble_at, head_length, stream_stop}
 use Rattle.grammar.specs.Sent.{bytes_of}

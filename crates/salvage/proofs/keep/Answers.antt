@@ -1,37 +1,45 @@
-use native.Mathlib.Omega.{arith}
-use Rattle.salvage.proofs.Keeping.{keeping_none, keeping-stop, in_order, keeping-more, keeping_all}
-use borrow.Author.Rules.{rules}
+use mathlib.Core.Path.{refl}
+use borrow.Author.Tests.{eqb-false}
+use Rattle.chain.proofs.PassedUp.{not_done}
+use Rattle.std.specs.Prelude.{Err}
+use Rattle.reader.specs.Windows.{whole_of, read_of}
+use Rattle.salvage.proofs.Keeping.{keeping-stop, in_order, keeping-more, keeping_all}
 use Rattle.salvage.proofs.keep.Goals as goal
-
-pub loop-windows-init : goal.loop-windows-init
-loop-windows-init c =
-    let a = c.args in
-    keeping_none a.size a.s.now a.n a.reaches.now
-
-pub returns-then-w-ne-DONE : goal.returns-then-w-ne-DONE
-returns-then-w-ne-DONE c =
-    let a = c.args in
-    let l = c.loop-windows in
-    keeping-stop a.size a.s.now a.n a.reaches.now l.reaches l.at l.windows l.invariant _ c.read_window-w.ensures (search rules) c.if-w-ne-DONE.true
 
 pub overflow_sub-reaches : goal.overflow_sub-reaches
 overflow_sub-reaches c =
     let a = c.args in
     let l = c.loop-windows in
-    in_order a.size a.s.now a.n a.reaches.now l.reaches l.at l.windows l.invariant _ c.read_window-w.ensures (search rules) c.if-w-ne-DONE.false
+    in_order a.size a.s.now a.n a.reaches.now l.reaches l.offset l.windows l.invariant (whole_of c.in-Ok.w) c.in-Ok.ensures c.loop-windows-test.true refl
 
-pub bounds-reaches-windows : goal.bounds-reaches-windows
-bounds-reaches-windows c =
-    omega (arith, c.loop-windows.invariant.long, c.requires)
+pub returns-in-Err-clause-front_value : goal.returns-in-Err-clause-front_value
+returns-in-Err-clause-front_value c =
+    let a = c.args in
+    let l = c.loop-windows in
+    (keeping-stop a.size a.s.now a.n a.reaches.now l.reaches l.offset l.windows l.invariant (read_of (Err c.in-Err.e)) c.in-Err.ensures c.loop-windows-test.true
+    (eqb-false _ _ (not_done c.in-Err.e.refusal))).0
+
+pub returns-in-Err-clause-reaches_after : goal.returns-in-Err-clause-reaches_after
+returns-in-Err-clause-reaches_after c =
+    let a = c.args in
+    let l = c.loop-windows in
+    (keeping-stop a.size a.s.now a.n a.reaches.now l.reaches l.offset l.windows l.invariant (read_of (Err c.in-Err.e)) c.in-Err.ensures c.loop-windows-test.true
+    (eqb-false _ _ (not_done c.in-Err.e.refusal))).1
 
 pub loop-windows-preserved : goal.loop-windows-preserved
 loop-windows-preserved c =
     let a = c.args in
     let l = c.loop-windows in
-    keeping-more a.size a.s.now a.n a.reaches.now l.reaches l.at l.windows l.invariant _ c.read_window-w.ensures (search rules) c.if-w-ne-DONE.false
+    keeping-more a.size a.s.now a.n a.reaches.now l.reaches l.offset l.windows l.invariant (whole_of c.in-Ok.w) c.in-Ok.ensures c.loop-windows-test.true refl
 
-pub returns : goal.returns
-returns c =
+pub returns-clause-front_value : goal.returns-clause-front_value
+returns-clause-front_value c =
     let a = c.args in
     let l = c.loop-windows in
-    keeping_all a.size a.s.now a.n a.reaches.now l.reaches l.at l.windows l.invariant (search rules)
+    (keeping_all a.size a.s.now a.n a.reaches.now l.reaches l.offset l.windows l.invariant c.loop-windows-test.false).0
+
+pub returns-clause-reaches_after : goal.returns-clause-reaches_after
+returns-clause-reaches_after c =
+    let a = c.args in
+    let l = c.loop-windows in
+    (keeping_all a.size a.s.now a.n a.reaches.now l.reaches l.offset l.windows l.invariant c.loop-windows-test.false).1

@@ -1,10 +1,5 @@
-use Prim.Native.Nat.{◌-◌}
-use lib.ListN.{length}
 use Rattle.salvage.proofs.Keeping.{Putting}
 use Rattle.salvage.proofs.nulls_out.Given as goal
 
-abbrev pub invariant-loop-i : goal.invariant-loop-i
-invariant-loop-i l = Putting l.reaches l.initial.out l.out l.at l.i
-
-abbrev pub decreases-loop-i : goal.decreases-loop-i
-decreases-loop-i l = length l.reaches - l.i
+abbrev pub invariant-loop-reach : goal.invariant-loop-reach
+invariant-loop-reach l = Putting l.reaches l.initial.out l.out l.at l.reach-index

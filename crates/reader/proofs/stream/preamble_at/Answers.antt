@@ -1,12 +1,10 @@
-use native.Mathlib.Omega.{arith}
-use Rattle.chain.proofs.Tests.{tests}
+use mathlib.Core.Path.{◌∙◌}
+use lib.Dec.{eqb}
+use Rattle.chain.proofs.ByCases.{by_test}
+use Rattle.chain.specs.Paper.{two_preambles}
 use Rattle.reader.specs.Stream.{preamble_at}
 use Rattle.reader.proofs.stream.preamble_at.Goals as goal
 
-pub returns-then-mode-eq-TWO_PREAMBLES : goal.returns-then-mode-eq-TWO_PREAMBLES
+pub returns-clause-value : goal.returns-clause-value
 unfolding preamble_at
-returns-then-mode-eq-TWO_PREAMBLES c = record { value = search tests; upper_bound = omega arith }
-
-pub returns-else-mode-eq-TWO_PREAMBLES : goal.returns-else-mode-eq-TWO_PREAMBLES
-unfolding preamble_at
-returns-else-mode-eq-TWO_PREAMBLES c = record { value = search tests; upper_bound = omega arith }
+returns-clause-value c = c.from.ensures ∙ by_test (eqb c.args.mode two_preambles) (λ y. rw y) (λ y. rw y)

@@ -1,35 +1,31 @@
 use Prim.Native.Nat.{◌+◌}
 use mathlib.Core.Path.{ap, sym, ◌∙◌}
 use native.Mathlib.Omega.{arith}
-use borrow.Author.Tests.{eq-eqb, ne_eqb}
-use Rattle.chain.specs.Paper.{done}
+use Rattle.std.proofs.lemmas.Result.{err_from_is_err_and}
+use Rattle.chain.proofs.PassedUp.{not_done}
+use Rattle.reader.specs.Stops.{Stop}
 use Rattle.reader.specs.Stream.{stream_stop}
-use Rattle.reader.specs.declared.stream.Stop.{Stop}
 use Rattle.reader.proofs.Streams.{head_done}
 use Rattle.reader.proofs.stream.read_stream.Goals as goal
 
-pub returns-then-h-ne-DONE : goal.returns-then-h-ne-DONE
+pub returns-in_err-first : goal.returns-in_err-first
 unfolding stream_stop
-returns-then-h-ne-DONE c = let z = c.if-h-ne-DONE.true in simp (← c.head-h.ensures, ne_eqb c.head-h.result.number done z)
+returns-in_err-first c =
+    let p = err_from_is_err_and c.from_residual.result c.from_residual.ensures.1 in
+    rw (p.1, p.2) (simp (← c.in_err-first.ensures, not_done))
 
 pub bounds-s-p : goal.bounds-s-p
-bounds-s-p c = let a = c.args in let h = head_done a.mode a.s.now (ap (λ (e : Stop). e.number) (sym c.head-h.ensures) ∙ c.if-h-ne-DONE.false) in omega arith
+bounds-s-p c = let h = head_done c.args.mode c.args.s.now (ap (λ (e : Stop). e.number) (sym c.in_ok-first.ensures)) in omega arith
 
-pub overflow_sub-s : goal.overflow_sub-s
-overflow_sub-s c = omega (arith, c.type_inv.s (c.preamble_at-p.result + 5))
-
-pub returns-then-w-ne-DONE : goal.returns-then-w-ne-DONE
+pub returns-in_err-at : goal.returns-in_err-at
 unfolding stream_stop
-returns-then-w-ne-DONE c = let z = c.if-h-ne-DONE.false in let y = c.if-w-ne-DONE.true in simp (← c.head-h.ensures, eq-eqb c.head-h.result.number done z, ← c.preamble_at-p.ensures.value, ← c.read_windows-w.ensures, ne_eqb c.read_windows-w.result.number done y)
+returns-in_err-at c =
+    let p = err_from_is_err_and c.from_residual-in_err-at.result c.from_residual-in_err-at.ensures.1 in
+    rw (p.1, p.2) (simp (← c.in_ok-first.ensures, ← c.preamble_at-p.ensures.value, ← c.in_err-at.ensures, not_done))
 
 pub bounds-s-p-2 : goal.bounds-s-p-2
-bounds-s-p-2 c =
-    let a = c.args in
-    let h = head_done a.mode a.s.now (ap (λ (e : Stop). e.number) (sym c.head-h.ensures) ∙ c.if-h-ne-DONE.false) in omega arith
+bounds-s-p-2 c = let h = head_done c.args.mode c.args.s.now (ap (λ (e : Stop). e.number) (sym c.in_ok-first.ensures)) in omega arith
 
 pub returns : goal.returns
 unfolding stream_stop
-returns c =
-    let z = c.if-h-ne-DONE.false in
-    let y = c.if-w-ne-DONE.false in
-    c.check.ensures ∙ simp (← c.head-h.ensures, eq-eqb c.head-h.result.number done z, ← c.preamble_at-p.ensures.value, ← c.read_windows-w.ensures, eq-eqb c.read_windows-w.result.number done y)
+returns c = c.check.ensures ∙ simp (← c.in_ok-first.ensures, ← c.preamble_at-p.ensures.value, ← c.in_ok-at.ensures)

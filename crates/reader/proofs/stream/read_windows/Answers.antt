@@ -1,20 +1,24 @@
-use mathlib.Core.Path.{refl, sym, ◌∙◌}
-use borrow.Author.Tests.{eq-eqb, ne_eqb}
-use Rattle.chain.specs.Paper.{done}
-use Rattle.reader.proofs.Windows.{windows-more, windows-none}
-use borrow.Author.Rules.{rules}
+use mathlib.Core.Path.{sym, ◌∙◌}
+use Prim.Native.Nat.{◌-◌, ◌+◌}
+use mathlib.Core.Path.{◌≡◌}
+use native.Mathlib.Omega.{arith}
+use Rattle.std.proofs.lemmas.Result.{err_from_is_err_and}
+use Rattle.reader.proofs.Windows.{windows_ended, windows_on, windows-none}
 use Rattle.reader.proofs.stream.read_windows.Goals as goal
 
-pub loop-left-init : goal.loop-left-init
-loop-left-init c = refl
+pub returns-in_err-at : goal.returns-in_err-at
+returns-in_err-at c =
+    let a = c.args in
+    let l = c.loop in
+    let p = err_from_is_err_and c.from_residual.result c.from_residual.ensures.1 in
+    rw (p.1, p.2) (windows_ended a.size a.s.now _ (a.n - l.counter) l.at (omega arith) c.in_err-at.ensures ∙ sym l.invariant)
 
-pub returns-then-w-ne-DONE : goal.returns-then-w-ne-DONE
-returns-then-w-ne-DONE c = let a = c.args in let l = c.loop-left in let e = c.loop-left.invariant ∙ windows-more a.size a.s.now l.left l.at (search rules) in
-    sym (rw (← c.read_window-w.ensures) at e ∙ rw (ne_eqb _ done c.if-w-ne-DONE.true))
-
-pub loop-left-preserved : goal.loop-left-preserved
-loop-left-preserved c = let a = c.args in let l = c.loop-left in let e = c.loop-left.invariant ∙ windows-more a.size a.s.now l.left l.at (search rules) in
-    rw (← c.read_window-w.ensures) at e ∙ rw (eq-eqb _ done c.if-w-ne-DONE.false)
+pub loop-preserved : goal.loop-preserved
+loop-preserved c =
+    let a = c.args in
+    let l = c.loop in
+    let e : a.n - l.counter - 1 ≡ a.n - (l.counter + 1) = omega arith in
+    l.invariant ∙ windows_on a.size a.s.now c.in_ok-at.field-0 (a.n - l.counter) l.at (omega arith) c.in_ok-at.ensures ∙ rw e
 
 pub returns : goal.returns
-returns c = let a = c.args in let l = c.loop-left in sym (c.loop-left.invariant ∙ windows-none a.size a.s.now l.left l.at (search rules))
+returns c = let a = c.args in let l = c.loop in sym (l.invariant ∙ windows-none a.size a.s.now (a.n - l.counter) l.at (omega arith))

@@ -1,9 +1,15 @@
-use Prim.Native.Nat.{◌-◌}
+use Prim.Native.Nat.{◌+◌}
+use mathlib.Core.Path.{◌≡◌}
+use Rattle.std.specs.Iterator.Adapters.{enumerate_source, enumerate_count}
 use Rattle.tidy.proofs.Laying.{Laying}
 use Rattle.tidy.proofs.lay.paint.Given as goal
 
 abbrev pub invariant-loop-i : goal.invariant-loop-i
-invariant-loop-i l = Laying l.size l.s l.n l.places l.initial.out l.out l.at l.i
-
-abbrev pub decreases-loop-i : goal.decreases-loop-i
-decreases-loop-i l = l.n - l.i
+invariant-loop-i l = record {
+  can : (goal.iterator-loop-i).can_next l.i-iterator;
+  ends : (goal.iterator-loop-i).is_finite l.i-iterator;
+  same_size : (enumerate_source l.i-iterator).size ≡ l.size;
+  same_stream : (enumerate_source l.i-iterator).s.now ≡ l.s;
+  left : (enumerate_source l.i-iterator).left + enumerate_count l.i-iterator ≡ l.n;
+  laying : Laying l.size l.s l.n l.places l.initial.out l.out (enumerate_source l.i-iterator).at (enumerate_count l.i-iterator);
+}
