@@ -1,7 +1,7 @@
 -- The figures of a stream that are counted between the lowest and the highest cell that it stores into: cells by order or by marks, bits by memory. Assumes
 -- nothing.
 use Prim.Native.Nat.{ℕ, zero, suc, min, ◌+◌, ◌-◌, ◌*◌, ◌<◌, ◌≤◌}
-use mathlib.Core.Bool.{Bool, true, false}
+use mathlib.Core.Bool.{true}
 use mathlib.Core.Path.{◌≡◌, refl, sym, ap, ap₂, ◌∙◌}
 use mathlib.Core.List.{List, [], ◌∷◌, ◌++◌}
 use native.Mathlib.Nat.{zero-add}
@@ -72,7 +72,7 @@ one_of_lem (suc (suc t)) h = absurd (omega arith)
 none_of : (t : ℕ) → t ≤ 1 → one_if (leb 2 t) ≡ 0
 none_of t h = ap one_if (lt-leb 2 t (omega arith))
 
-module _ (ps : List Put) (n : ℕ) (marking : Bool) (marks marks' : List ℕ) (w : Walked) (x : Walk ps n marking marks w marks') where
+module _ (ps : List Put) (n : ℕ) (w : Walked) (x : Walk ps n w) where
   above-all : (i : ℕ) → n ≤ i → times_in i ps ≡ 0
   above-all i h = x.above i (omega (arith, x.inside))
 
@@ -152,8 +152,8 @@ cleared m low top j h g l =
 
 -- ---- bits
 
-module _ (ps : List Put) (old mem : List ℕ) (same : mem ≡ put_into ps old) (size : length mem ≡ length old) (marking : Bool) (marks marks' : List ℕ) (w : Walked)
-    (x : Walk ps (length old) marking marks w marks') where
+module _ (ps : List Put) (old mem : List ℕ) (same : mem ≡ put_into ps old) (size : length mem ≡ length old) (w : Walked)
+    (x : Walk ps (length old) w) where
   untouched : (i : ℕ) → times_in i ps ≡ 0 → get_or old i 0 ≡ get_or mem i 0
   untouched i z = sym (ap (λ (m : List ℕ). get_or m i 0) same ∙ never_stored ps old i z)
 
@@ -188,25 +188,6 @@ module _ (ps : List Put) (old mem : List ℕ) (same : mem ≡ put_into ps old) (
       ∙ put_same w.low (w.top - w.low) mem
 
 -- ---- the row
-
--- a walk that marks nothing leaves the marks as they were
-pub walk_again : (ps : List Put) (marks marks' : List ℕ) (w : Walked) → Walk ps (length marks) false marks w marks' → Walk ps (length marks') false marks' w marks'
-walk_again ps marks marks' w x =
-    rw x.marks_left
-    (record {
-      stored = x.stored;
-      few = x.few;
-      order = x.order;
-      inside = x.inside;
-      below = x.below;
-      above = x.above;
-      once = x.once;
-      marks_left = refl;
-    })
-
-pub walk_sized : {ps : List Put} {n k : ℕ} {marking : Bool} {marks marks' : List ℕ} {w : Walked} → n ≡ k → Walk ps n marking marks w marks'
-    → Walk ps k marking marks w marks'
-walk_sized e x = rw e at x
 
 pub row_made : (mode p : ℕ) (a : Answer) (ps : List Put) (before after : List ℕ) {d ce ag bi ed : ℕ} → d ≡ length ps → ce ≡ cells_stored (length before) 1 ps
     → ag ≡ cells_stored (length before) 2 ps → bi ≡ bits_over (length before) before after → ed ≡ edges_per_byte mode * a.taken + p + idle_edges mode

@@ -24,7 +24,7 @@ use Rattle.grammar.specs.Stores.{puts_of}
 use Rattle.grammar.proofs.Runs.Keeps.{write_misses, run_open}
 use Rattle.grammar.proofs.Runs.Stays.{went_stays, run_stays}
 use Rattle.hunt.specs.Bits.{byte_at, bytes_from}
-use Rattle.sheet.specs.Steps.{rest_at, Writing, bound_at, Header}
+use Rattle.sheet.specs.Steps.{rest_at, Writing, bound_at}
 use Rattle.sheet.proofs.Bounds.{byte_small}
 use Rattle.sheet.proofs.Stored.{over_puts, frame_puts, writing_gone, writing-size}
 use Rattle.sheet.proofs.WalkTurns.{ahead_gone, ahead-over, Framing}
@@ -110,21 +110,23 @@ module _ (d : Chain) (len : ℕ) (w : Writing d len) (s : List ℕ) (q k n at : 
       let e5 : 8 * (q + at + 4) + k + 8 ≡ 8 * (q + (at + 5)) + k = omega arith in
       rw (m, e1, e2, e3, e4, e5, ← e0)
 
-  pub header_framing : Header d.place.awaited len s q k n at → (start end : ℕ) → start ≡ bound_at s k (q + at + 1) → end ≡ bound_at s k (q + at + 3) → (c : Chain)
-      → c ≡ with_place d (headed_of d.place start end) → Framing d len s q k n at c 5
-  header_framing x start end f g c e =
+  pub header_framing : d.place.awaited ≡ at_null → (start end : ℕ) → start ≡ bound_at s k (q + (at + 1)) → end ≡ bound_at s k (q + (at + 3)) → fits_of len start end ≡ true
+      → (c : Chain) → c ≡ with_place d (headed_of d.place start end) → Framing d len s q k n at c 5
+  header_framing null start end f g fit c e =
+      let d1 : q + (at + 1) ≡ q + at + 1 = omega arith in
+      let d3 : q + (at + 3) ≡ q + at + 3 = omega arith in
       let e2 : q + at + 1 + 1 ≡ q + at + 2 = omega arith in
       let e4 : q + at + 3 + 1 ≡ q + at + 4 = omega arith in
-      let f1 : start ≡ byte 1 * 256 + byte 2 = rw e2 at f in
-      let f2 : end ≡ byte 3 * 256 + byte 4 = rw e4 at g in
-      let o : fits_of (size_here d) (byte 1 * 256 + byte 2) (byte 3 * 256 + byte 4) ≡ true = rw (writing-size d len w) (rw (e2, e4) at x.fits) in
+      let f1 : start ≡ byte 1 * 256 + byte 2 = rw (d1, e2) at f in
+      let f2 : end ≡ byte 3 * 256 + byte 4 = rw (d3, e4) at g in
+      let o : fits_of (size_here d) (byte 1 * 256 + byte 2) (byte 3 * 256 + byte 4) ≡ true = rw (writing-size d len w) (rw (f1, f2) at fit) in
       let bs : List ℕ = byte 0 ∷ byte 1 ∷ byte 2 ∷ byte 3 ∷ byte 4 ∷ [] in
       let t = fits_true (size_here d) (byte 1 * 256 + byte 2) (byte 3 * 256 + byte 4) o in
       let r : run_of (run d (replicate len 0) more) bs ≡ run (with_place d (headed_of d.place start end)) (replicate len 0) more =
-      rw (f1, f2) (header_at d (replicate len 0) (byte 0) (byte 1) (byte 2) (byte 3) (byte 4) x.null t.0 t.1 t.2) in
+      rw (f1, f2) (header_at d (replicate len 0) (byte 0) (byte 1) (byte 2) (byte 3) (byte 4) null t.0 t.1 t.2) in
       let small : (j : ℕ) → byte j < 256 = λ j. byte_small s (8 * (q + at + j) + k) in
       record {
-        on = ap (puts_of d) five ∙ frames bs (rest_at s q k n (at + 5)) d (replicate len 0) 0 w.write x.null (omega arith) (ap (λ (x : Run). x.number) r)
+        on = ap (puts_of d) five ∙ frames bs (rest_at s q k n (at + 5)) d (replicate len 0) 0 w.write null (omega arith) (ap (λ (x : Run). x.number) r)
             ∙ ap (λ (x : Run). puts_of x.chain (rest_at s q k n (at + 5))) r ∙ ap (λ (x : Chain). puts_of x (rest_at s q k n (at + 5))) (sym e);
         write = subst (λ (x : Chain). Writing x len) (sym e)
             (writing-run d len bs (with_place d (headed_of d.place start end)) (replicate len 0) w (small 0, (small 1, (small 2, (small 3, (small 4, tt))))) r);

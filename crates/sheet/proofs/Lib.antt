@@ -1,7 +1,6 @@
 pub mod Sums
 pub mod Times
 pub mod Distinct
-pub mod BitSums
 pub mod MarkLaws
 pub mod TableLaws
 pub mod Pieces

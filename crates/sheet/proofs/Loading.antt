@@ -1,7 +1,7 @@
 -- One stream as the code loads it: where its bytes begin, the run that is open, its row and the device that it leaves. Assumes nothing.
 use Prim.Native.Nat.{ℕ, ◌+◌, ◌*◌, ◌/◌, ◌<◌, ◌≤◌}
 use mathlib.Core.Bool.{Bool, true, false, ◌&&◌}
-use mathlib.Core.Path.{◌≡◌, refl, sym, ap, ap₂, ◌∙◌}
+use mathlib.Core.Path.{◌≡◌, refl, sym, ap, ap₂, subst, ◌∙◌}
 use mathlib.Core.List.{List, [], ◌∷◌}
 use native.Mathlib.Nat.{add-zero}
 use native.Mathlib.Omega.{arith}
@@ -10,6 +10,9 @@ use lib.Dec.{eqb}
 use lib.ListN.{length, get_or}
 use Rattle.chain.specs.declared.Chain.{Chain}
 use Rattle.chain.specs.declared.Place.{Place}
+use Rattle.chain.specs.declared.mode.Mode.{Mode}
+use Rattle.chain.specs.declared.mode.Mode.TheVariants.{Upward, Downward, SerialExternal, SerialInternal, EpromInternal, TwoPreambles}
+use Rattle.chain.specs.Mode.{mode_number}
 use Rattle.chain.specs.Paper.{serial, first_mode, two_preambles, most_bytes, more}
 use Rattle.chain.specs.Rules.{pick, from}
 use Rattle.chain.specs.Set.{with_place, closed_place}
@@ -20,16 +23,21 @@ use Rattle.chain.proofs.Sizes.{size_most, size-least}
 use Rattle.chain.proofs.Sound.{state_usable}
 use Rattle.chain.proofs.BadChain.{m_known}
 use Rattle.machine.specs.declared.Answer.{Answer}
+use Rattle.machine.specs.declared.Fed.{Fed}
 use Rattle.machine.specs.Run.{Run, run, run_of}
 use Rattle.machine.specs.Calls.{fed_of}
+use Rattle.machine.proofs.Runs.{run_lasts}
 use Rattle.hunt.specs.Bits.{bytes_from, whole_from}
 use Rattle.hunt.specs.Hunt.{nowhere, found_at, hunted_bytes}
 use Rattle.hunt.proofs.Found.{found_le, found_fits}
 use Rattle.hunt.proofs.Bytes.{bytes_rest, whole_is}
-use Rattle.grammar.specs.Stores.{puts_of}
+use Rattle.grammar.specs.Stores.{puts_of, put_into}
+use Rattle.grammar.proofs.Walk.{run_puts}
+use Rattle.sheet.specs.declared.Sheet.{Sheet}
 use Rattle.sheet.specs.Stream.{Device, shift_of, hunt_fails, bytes_of_stream, started, load_of, stores_of, left_by, unfound_row, row_of}
-use Rattle.sheet.specs.Steps.{bytes_after, Ready, Writing, row_from}
+use Rattle.sheet.specs.Steps.{bytes_after, puts_left, Ready, Writing, row_from}
 use Rattle.sheet.proofs.Bounds.{row_bounds}
+use Rattle.sheet.proofs.WalkTurns.{rest-first}
 use Rattle.sheet.proofs.Left.{Idle, started_is, started_feeds, started-kinds, started-registers, left-loaded}
 
 -- ---- where its bytes begin
@@ -69,6 +77,15 @@ module _ (mode : ℕ) (s : List ℕ) (p : ℕ) (e : p ≡ shift_of mode s) where
           let n : whole_from s p ≡ length s = sym (whole_is s p) ∙ omega (arith, f) in
           ap₂ (bytes_from s) z n ∙ bytes_rest s (bytes-at s u) 0 (length s) (omega arith)
 
+-- ---- the modes by name are the paper's
+pub mode_known : (m : Mode) → from first_mode two_preambles (mode_number m) ≡ true
+mode_known Upward = refl
+mode_known Downward = refl
+mode_known SerialExternal = refl
+mode_known SerialInternal = refl
+mode_known EpromInternal = refl
+mode_known TwoPreambles = refl
+
 -- ---- the device's size
 
 pub ready_size : (c : Chain) (n : ℕ) → Ready c n → (0 < n) × (n ≤ 16381)
@@ -86,7 +103,7 @@ ready_size c n r =
 -- ---- its run
 
 module _ (d : Device) (mode : ℕ) (i : Idle d) (m : from first_mode two_preambles mode ≡ true) where
-  pub started-writing : Writing (started d mode) (length d.memory)
+  started-writing : Writing (started d mode) (length d.memory)
   started-writing =
       record {
         one = ap (λ (c : Chain). c.count) (started_is d mode i m) ∙ i.ready.one;
@@ -115,26 +132,60 @@ module _ (d : Device) (mode : ℕ) (s : List ℕ) (i : Idle d) (m : from first_m
     unfolding load_of
     fed_is = ap (run_of (run (started d mode) d.memory more)) (bytes-given mode s p e u)
 
-    pub taken_few : length s ≤ most_bytes → (fed_of fed).answer.taken ≤ most_bytes
+    taken_few : length s ≤ most_bytes → (fed_of fed).answer.taken ≤ most_bytes
     unfolding fed_of row_of
     taken_few n =
         let b = (row_bounds d mode s (ap (λ (c : Place). c.taken) i.ready.closed) n i.bytes u).taken in
         let f : (row_of d mode s).taken ≡ (load_of d mode s).chain.place.taken = rw (hunt_finds mode s p e h) in
         omega (arith, b, f, ap (λ (r : Run). r.chain.place.taken) fed_is, n)
 
-    pub row_is : row_from mode p (fed_of fed).answer (puts_of (started d mode) (bytes_after s p)) d.memory fed.memory ≡ row_of d mode s
+    row_is : row_from mode p (fed_of fed).answer (puts_of (started d mode) (bytes_after s p)) d.memory fed.memory ≡ row_of d mode s
     unfolding fed_of row_of stores_of
     row_is = rw (hunt_finds mode s p e h, fed_is, bytes-given mode s p e u, e)
 
-    pub chain_left : with_place (fed_of fed).chain closed_place ≡ (left_by d mode s).chain
+    chain_left : with_place (fed_of fed).chain closed_place ≡ (left_by d mode s).chain
     chain_left = closing-chain fed ∙ ap (λ (r : Run). with_place r.chain closed_place) fed_is ∙ ap (λ (x : Device). x.chain) (sym (left-loaded d mode s i m u (hunt_finds mode s p e h)))
 
-    pub memory-left : fed.memory ≡ (left_by d mode s).memory
+    memory-left : fed.memory ≡ (left_by d mode s).memory
     memory-left = ap (λ (r : Run). r.memory) fed_is ∙ ap (λ (x : Device). x.memory) (sym (left-loaded d mode s i m u (hunt_finds mode s p e h)))
 
-pub row_same : (mode p : ℕ) (bs : List ℕ) {a b : Answer} {c d : Chain} {before old after mem : List ℕ} → a ≡ b → c ≡ d → before ≡ old → after ≡ mem
-    → row_from mode p a (puts_of c bs) before after ≡ row_from mode p b (puts_of d bs) old mem
-row_same mode p bs e f g h = rw (e, f, g, h)
+row_same : (mode p : ℕ) (bs before : List ℕ) {a b : Answer} {c d : Chain} {after mem : List ℕ} → a ≡ b → c ≡ d → after ≡ mem
+    → row_from mode p a (puts_of c bs) before after ≡ row_from mode p b (puts_of d bs) before mem
+row_same mode p bs before e f h = rw (e, f, h)
+
+-- the run that is started at c, and what it is fed
+module _ (d : Device) (mode : ℕ) (s : List ℕ) (i : Idle d) (m : from first_mode two_preambles mode ≡ true) (u : Bytes s) (p : ℕ) (e : p ≡ shift_of mode s) (h : p < nowhere)
+  (c : Chain) (st : c ≡ started d mode) (f : Fed) (fed : f ≡ fed_of (run_of (run c d.memory more) (bytes_after s p))) (mem : List ℕ)
+  (after : mem ≡ (run_of (run c d.memory more) (bytes_after s p)).memory) where
+    as_fed : f ≡ fed_of (run_of (run (started d mode) d.memory more) (bytes_after s p))
+    as_fed = fed ∙ ap (λ (c : Chain). fed_of (run_of (run c d.memory more) (bytes_after s p))) st
+
+    as-left : mem ≡ (run_of (run (started d mode) d.memory more) (bytes_after s p)).memory
+    as-left = after ∙ ap (λ (c : Chain). (run_of (run c d.memory more) (bytes_after s p)).memory) st
+
+    left_is : puts_left c s p 0 ≡ puts_of c (bytes_after s p)
+    left_is = ap (puts_of c) (sym (rest-first s p))
+
+    pub opened_same : length mem ≡ length d.memory
+    opened_same = ap length after ∙ (run_lasts (bytes_after s p) (run c d.memory more)).memory
+
+    pub opened_writing : Writing c (length mem)
+    opened_writing = rw (opened_same, st) (started-writing d mode i m)
+
+    pub opened_few : length s ≤ most_bytes → f.answer.taken ≤ most_bytes
+    opened_few n = subst (λ (x : Fed). x.answer.taken ≤ most_bytes) (sym as_fed) (taken_few d mode s i m u p e h n)
+
+    pub opened_memory : mem ≡ put_into (puts_left c s p 0) d.memory
+    opened_memory = rw left_is (after ∙ run_puts (bytes_after s p) c d.memory)
+
+    pub opened_row : (r : Sheet) → r ≡ row_from mode p f.answer (puts_left c s p 0) d.memory mem → r ≡ row_of d mode s
+    opened_row r g = rw left_is at g ∙ row_same mode p (bytes_after s p) d.memory (ap (λ (y : Fed). y.answer) as_fed) st as-left ∙ row_is d mode s i m u p e h
+
+    pub opened_chain : with_place f.chain closed_place ≡ (left_by d mode s).chain
+    opened_chain = ap (λ (y : Fed). with_place y.chain closed_place) as_fed ∙ chain_left d mode s i m u p e h
+
+    pub opened_left : mem ≡ (left_by d mode s).memory
+    opened_left = as-left ∙ memory-left d mode s i m u p e h
 
 -- the hunt fails
 module _ (d : Device) (mode : ℕ) (s : List ℕ) (p : ℕ) (e : p ≡ shift_of mode s) (h : nowhere ≤ p) where

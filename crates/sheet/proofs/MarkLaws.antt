@@ -1,16 +1,18 @@
--- One turn of the loops over marks: bumped one by one, counted one by one and in blocks. Assumes nothing.
-use Prim.Native.Nat.{ℕ, suc, ◌+◌, ◌-◌, ◌<◌, ◌≤◌}
-use mathlib.Core.Path.{◌≡◌, sym, ap, ◌∙◌}
+-- Marks bumped one by one, and a mark counted. Assumes nothing.
+use Prim.Native.Nat.{ℕ, suc, ◌+◌, ◌<◌, ◌≤◌}
+use mathlib.Core.Bool.{Bool, true, false}
+use mathlib.Core.Path.{◌≡◌, refl, sym}
 use mathlib.Core.List.{List, [], ◌∷◌, ◌++◌, append_assoc, append-nil}
 use native.Mathlib.Numerals.{add-one}
+use native.Mathlib.Nat.{add-zero}
 use native.Mathlib.Omega.{arith}
-use borrow.Rule.Slice.PartMut.{mid_len}
-use lib.Dec.{leb}
+use lib.Dec.{ltb}
+use Rattle.chain.proofs.ByCases.{by_test}
 use lib.ListN.{length, get_or, set, take, drop, drop_of_length-le}
 use lib.Seq.{drop-cons, drop-set-lt, take-suc-set, take_all}
-use Rattle.sheet.specs.Count.{one_if, sum_from}
-use Rattle.sheet.specs.Steps.{bump, bumped, marks_from}
-use Rattle.sheet.proofs.BitSums.{sum-block, sum-begun, sum_done, part_at}
+use Rattle.std.specs.Int.{from_bool}
+use Rattle.sheet.specs.Count.{one_if}
+use Rattle.sheet.specs.Steps.{bump, bumped}
 
 -- ---- bumped
 
@@ -27,27 +29,9 @@ bumped-done m i h = rw (drop_of_length-le m h, take_all i m h) (append-nil m)
 
 -- ---- counted
 
-pub marks-begun : (m : List ℕ) (k n : ℕ) → 0 + marks_from m k 0 (n - 0) ≡ marks_from m k 0 n
-unfolding marks_from
-marks-begun m k n = sum-begun (λ (j : ℕ). one_if (leb k (get_or m j 0))) n
+pub one_from : (b : Bool) → from_bool b ≡ one_if b
+one_from true = refl
+one_from false = refl
 
-pub marks-done : (m : List ℕ) (k n i : ℕ) → n ≤ i → marks_from m k i (n - i) ≡ 0
-unfolding marks_from
-marks-done m k n i h = sum_done (λ (j : ℕ). one_if (leb k (get_or m j 0))) n i h
-
-pub marks_turn : (m : List ℕ) (k n i : ℕ) → i < n → marks_from m k i (n - i) ≡ one_if (leb k (get_or m i 0)) + marks_from m k (i + 1) (n - (i + 1))
-unfolding marks_from sum_from
-marks_turn m k n i h =
-    let e : n - i ≡ suc (n - (i + 1)) = omega arith in
-    rw e
-
--- a part as it is lent, from i to i + b
-pub marks_block : (m : List ℕ) (k n i b : ℕ) → length m ≡ n → i + b ≤ n
-    → marks_from m k i (n - i)
-    ≡ marks_from (take (i + b - i) (drop i m)) k 0 (length (take (i + b - i) (drop i m))) + marks_from m k (i + b) (n - (i + b))
-unfolding marks_from
-marks_block m k n i b e h =
-    let part = take (i + b - i) (drop i m) in
-    let l : length part ≡ b = mid_len i (i + b) m (omega arith) ∙ omega arith in
-    rw l (sum-block (λ (j : ℕ). one_if (leb k (get_or m j 0))) (λ (j : ℕ). one_if (leb k (get_or part j 0))) n i b h (λ j g.
-    ap (λ (x : ℕ). one_if (leb k x)) (part_at m i b j g)))
+pub bump_is : (b : ℕ) → b + from_bool (ltb b 2) ≡ bump b
+bump_is b = by_test (ltb b 2) (λ e. rw e) (λ e. rw e (add-zero b))

@@ -9,6 +9,9 @@ use lib.ListN.{length}
 use Rattle.chain.specs.Paper.{first_mode, two_preambles, most_streams, most_bytes, done, bad_chain, bad_mode, too_short, bad_lengths}
 use Rattle.chain.specs.Rules.{pick, from}
 use Rattle.chain.specs.Kinds.{size_of}
+use Rattle.chain.specs.declared.kinds.Kind.{Kind}
+use Rattle.chain.specs.declared.kinds.Kind.TheVariants.{Teaching, At6002, At6003, At6005, At6010}
+use Rattle.chain.specs.KnownKinds.{kind_number}
 use Rattle.sheet.specs.Sheet.{sum, figures_a_row, sheet_number}
 
 module _ (kind mode : ℕ) (s lengths : List ℕ) (numbers figures : ℕ) where
@@ -54,3 +57,12 @@ module _ (kind mode : ℕ) (s lengths : List ℕ) (numbers figures : ℕ) where
             pub none_of_these : length lengths ≤ numbers → figures_a_row * length lengths ≤ figures → done ≡ sheet_number kind mode s lengths numbers figures
             none_of_these g h =
                 rw (rest, ne_eqb (size_of kind) 0 known, good, le-ltb numbers (length lengths) g, le-ltb figures (figures_a_row * length lengths) h)
+
+-- a kind by name is known
+pub kind_known : (k : Kind) → size_of (kind_number k) ≡ 0 → ⊥
+unfolding size_of
+kind_known Teaching e = cc
+kind_known At6002 e = cc
+kind_known At6003 e = cc
+kind_known At6005 e = cc
+kind_known At6010 e = cc

@@ -1,11 +1,10 @@
 -- A stream fed piece by piece: a piece and the rest of it, where the run goes on and where it is over. Assumes nothing.
-use Prim.Native.Nat.{ℕ, ◌+◌, ◌-◌, ◌*◌, ◌/◌, ◌%◌, ◌^◌, ◌<◌, ◌≤◌}
+use Prim.Native.Nat.{ℕ, ◌+◌, ◌-◌, ◌*◌, ◌%◌, ◌^◌, ◌<◌, ◌≤◌}
 use mathlib.Core.Logic.{◌⊎◌, ⊎_elim}
-use mathlib.Core.Path.{◌≡◌, refl, sym, ap, ap₂, ◌∙◌}
+use mathlib.Core.Path.{◌≡◌, refl, sym, ap, ◌∙◌}
 use mathlib.Core.List.{List, ◌++◌}
 use native.Mathlib.Nat.{mod-eq_of_lt}
 use native.Mathlib.Omega.{arith}
-use lib.Bits.{bit_and}
 use lib.ListN.{length, get_or, take, drop}
 use lib.Seq.{sets}
 use Rattle.chain.specs.declared.Chain.{Chain}
@@ -17,7 +16,6 @@ use Rattle.machine.proofs.Feed.{run-append, run-over, lent-rest}
 use Rattle.grammar.proofs.Runs.Slices.{fed-more}
 use Rattle.hunt.specs.Bits.{bytes_from, whole_from}
 use Rattle.hunt.proofs.Bytes.{length-bytes, bytes-append, whole_is, bytes_rest}
-use Rattle.hunt.proofs.Windows.{place_split}
 
 -- the bytes from bit k of byte `at` on, up to byte n
 abbrev pub rest_from : List ℕ → ℕ → ℕ → ℕ → List ℕ
@@ -31,12 +29,10 @@ pub all_from_lem : (s : List ℕ) (q k : ℕ) → 0 < k → k < 8 → q < length
 all_from_lem s q k h g l = ap (bytes_from s (8 * q + k)) (whole_here s q k h g l)
 
 -- where they begin at a byte they are the rest of the slice
-pub at_byte : (s : List ℕ) → ((i : ℕ) → get_or s i 0 < 2 ^ 8) → (p : ℕ) → bit_and p 7 ≡ 0 → (p + 7) / 8 ≤ length s
-    → take (length s - p / 8) (drop (p / 8) s) ≡ bytes_from s p (whole_from s p)
-at_byte s bytes p z h =
-    let e : p ≡ 8 * (p / 8) = omega (arith, place_split p) in
-    let n : length s - p / 8 ≡ whole_from s p = omega (arith, whole_is s p) in
-    lent-rest s (p / 8) ∙ sym (ap₂ (bytes_from s) e (sym n) ∙ bytes_rest s bytes (p / 8) (length s - p / 8) (omega arith))
+pub at_byte : (s : List ℕ) → ((i : ℕ) → get_or s i 0 < 2 ^ 8) → (q : ℕ) → q ≤ length s → take (length s - q) (drop q s) ≡ bytes_from s (8 * q) (whole_from s (8 * q))
+at_byte s bytes q h =
+    let n : length s - q ≡ whole_from s (8 * q) = sym (sym (whole_is s (8 * q)) ∙ omega arith) in
+    lent-rest s q ∙ sym (ap (bytes_from s (8 * q)) (sym n) ∙ bytes_rest s bytes q (length s - q) (omega arith))
 
 -- a piece assembled in a room is its front
 pub assembled : (s room : List ℕ) (k at m : ℕ) → k < 8 → m ≤ length room → (room' : List ℕ) → room' ≡ sets room 0 (bytes_from s (8 * at + k % 8) m)

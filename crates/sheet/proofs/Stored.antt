@@ -30,12 +30,7 @@ use Rattle.grammar.proofs.Walk.{walk_on, walk_over}
 use Rattle.grammar.proofs.Runs.Keeps.{write_misses, went_sound, run_open}
 use Rattle.grammar.proofs.Runs.Stays.{went_stays}
 use Rattle.closing.proofs.Sound.{within}
-use Rattle.sheet.specs.Steps.{Writing}
-
--- bytes to cells one after another, from the cell i on
-abbrev pub puts_at : ℕ → List ℕ → List Put
-puts_at i [] = []
-puts_at i (b ∷ bs) = record { cell = i; byte = b } ∷ puts_at (suc i) bs
+use Rattle.sheet.specs.Steps.{Writing, puts_at}
 
 -- ---- one byte
 

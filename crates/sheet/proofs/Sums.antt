@@ -1,5 +1,5 @@
 -- Sums over cells: put together, taken apart, moved, compared term by term. Assumes nothing.
-use Prim.Native.Nat.{ℕ, zero, suc, ◌+◌, ◌*◌, ◌≤◌, ◌<◌}
+use Prim.Native.Nat.{ℕ, zero, suc, ◌+◌, ◌-◌, ◌*◌, ◌≤◌, ◌<◌}
 use mathlib.Core.Path.{◌≡◌, refl, ap, ◌∙◌}
 use native.Mathlib.Omega.{arith}
 use native.Mathlib.Nat.{mul-zero, mul-add, zero-add, add-zero, suc-add}
@@ -67,3 +67,24 @@ sum_moved f k i (suc n) =
 
 pub sum_shift : (f : ℕ → ℕ) (i n : ℕ) → sum_from (λ (j : ℕ). f (i + j)) 0 n ≡ sum_from f i n
 sum_shift f i n = sum_moved f i 0 n ∙ ap (λ (x : ℕ). sum_from f x n) (add-zero i)
+
+-- the first of those that are left
+pub sum_next : (f : ℕ → ℕ) (i n : ℕ) → i < n → sum_from f i (n - i) ≡ f i + sum_from f (i + 1) (n - (i + 1))
+unfolding sum_from
+sum_next f i n h =
+    let e : n - i ≡ suc (n - (i + 1)) = omega arith in
+    rw e
+
+-- those up to e, and those from there on
+pub sum_split : (f : ℕ → ℕ) (i e n : ℕ) → i ≤ e → e ≤ n → sum_from f i (n - i) ≡ sum_from f i (e - i) + sum_from f e (n - e)
+sum_split f i e n h k =
+    let a : n - i ≡ e - i + (n - e) = omega arith in
+    let b : i + (e - i) ≡ e = omega arith in
+    rw a (sum_parts f i (e - i) (n - e) ∙ ap (λ (x : ℕ). sum_from f i (e - i) + sum_from f x (n - e)) b)
+
+-- none is left
+pub sum_none : (f : ℕ → ℕ) (i n : ℕ) → n ≤ i → sum_from f i (n - i) ≡ 0
+unfolding sum_from
+sum_none f i n h =
+    let e : n - i ≡ 0 = omega arith in
+    rw e

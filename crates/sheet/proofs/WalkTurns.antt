@@ -1,4 +1,4 @@
--- The turns of a walk over the bytes from bit k of byte q on. Assumes nothing.
+-- The turns over the bytes from bit k of byte q on that find what they store. Assumes nothing.
 use Prim.Native.Nat.{ℕ, ◌+◌, ◌-◌, ◌*◌, ◌/◌, ◌<◌, ◌≤◌}
 use mathlib.Core.Bool.{Bool, true, false}
 use mathlib.Core.Path.{◌≡◌, refl, sym, ap, ap₂, ◌∙◌}
@@ -8,7 +8,7 @@ use lib.Bits.{bit_and}
 use lib.ListN.{length}
 use Rattle.chain.specs.declared.Chain.{Chain}
 use Rattle.chain.specs.declared.Made.{Made}
-use Rattle.chain.specs.Paper.{most_bytes, at_data, more}
+use Rattle.chain.specs.Paper.{at_data, more}
 use Rattle.chain.specs.Rules.{pick}
 use Rattle.awaited.specs.Byte.{number_of}
 use Rattle.machine.specs.Run.{writes, gone_on}
@@ -17,9 +17,8 @@ use Rattle.grammar.specs.Stores.{Put, walk_of, puts_in, puts_of}
 use Rattle.hunt.specs.Bits.{bytes_from, whole_from}
 use Rattle.hunt.proofs.Bytes.{length-bytes, bytes-append, whole_is}
 use Rattle.hunt.proofs.Windows.{place_split}
-use Rattle.sheet.specs.declared.walk.Walked.{Walked}
-use Rattle.sheet.specs.Steps.{rest_at, Writing, bumped_part, noted_of, ended_of, Walk}
-use Rattle.sheet.proofs.Noted.{Walking, walk_frame, walk_data, walk_ends}
+use Rattle.sheet.specs.Steps.{rest_at, Writing, Part}
+use Rattle.sheet.proofs.Stored.{block_puts, awaiting}
 
 -- all of them
 pub rest-first : (s : List ℕ) (p : ℕ) → bytes_from s p (whole_from s p) ≡ rest_at s (p / 8) (bit_and p 7) (length s - (p + 7) / 8) 0
@@ -58,29 +57,32 @@ pub record Framing (d : Chain) (len : ℕ) (s : List ℕ) (q k n at : ℕ) (c : 
   pub on : puts_of d (rest_at s q k n at) ≡ puts_of c (rest_at s q k n (at + u))
   pub write : Writing c len
 
-module _ (s : List ℕ) (q k n : ℕ) (ps : List Put) (len : ℕ) (marking : Bool) (marks₀ marks : List ℕ) (w : Walked) (d : Chain) (at : ℕ)
-    (x : Walking ps len marking marks₀ marks w d (rest_at s q k n at)) (few : w.stored ≤ most_bytes) where
-  -- no byte is left
-  pub ends_dry : n ≤ at → Walk ps len marking marks₀ (ended_of w) marks
-  ends_dry h = walk_ends ps len marking marks₀ marks w d (rest_at s q k n at) x few (ap (puts_of d) (none s (8 * (q + at) + k) n at h) ∙ nothing d)
+-- no byte is left
+pub none_left : (d : Chain) (s : List ℕ) (q k n at : ℕ) → n ≤ at → puts_of d (rest_at s q k n at) ≡ []
+none_left d s q k n at h = ap (puts_of d) (none s (8 * (q + at) + k) n at h) ∙ nothing d
 
-  -- the run is over
-  pub ends-over : puts_of d (rest_at s q k n at) ≡ [] → Walk ps len marking marks₀ (ended_of w) marks
-  ends-over z = walk_ends ps len marking marks₀ marks w d (rest_at s q k n at) x few z
+-- m data bytes
+pub data_part : (d : Chain) (len : ℕ) (s : List ℕ) (q k n at m : ℕ) → Writing d len → at + m ≤ n → 0 < m → m ≤ d.place.end - d.place.next + 1 → d.place.awaited ≡ at_data
+    → Part (puts_of d (rest_at s q k n at)) len at d.place.next (d.place.next + m) (at + m) (puts_of (past_of d m) (rest_at s q k n (at + m)))
+data_part d len s q k n at m w h some fits a =
+    let bs : List ℕ = bytes_from s (8 * (q + at) + k) m in
+    let l : length bs ≡ m = length-bytes s (8 * (q + at) + k) m in
+    let c : n - at ≡ m + (n - (at + m)) = omega arith in
+    let f : 8 * (q + at) + k + 8 * m ≡ 8 * (q + (at + m)) + k = omega arith in
+    let parts : rest_at s q k n at ≡ bs ++ rest_at s q k n (at + m) =
+    ap (bytes_from s (8 * (q + at) + k)) c ∙ bytes-append s (8 * (q + at) + k) m (n - (at + m)) ∙ ap (λ (y : ℕ). bs ++ bytes_from s y (n - (at + m))) f in
+    let x = awaiting d len w a in
+    let b = block_puts bs (rest_at s q k n (at + m)) d w.write a (omega arith) (omega arith) in
+    record {
+      bytes = bs;
+      split = ap (puts_of d) parts ∙ (rw (x.address, l) at b);
+      some = omega arith;
+      ends = omega arith;
+      inside = omega (arith, x.next, x.inside);
+      taken = omega arith;
+    }
 
-  -- bytes that store nothing
-  pub frame_turn : (c : Chain) (u : ℕ) → Framing d len s q k n at c u → Walking ps len marking marks₀ marks w c (rest_at s q k n (at + u))
-  frame_turn c u f = walk_frame ps len marking marks₀ marks w d c (rest_at s q k n at) (rest_at s q k n (at + u)) x f.on f.write
-
-  -- m data bytes
-  pub data_turn : (m : ℕ) → at + m ≤ n → 0 < m → m ≤ d.place.end - d.place.next + 1 → d.place.awaited ≡ at_data → length marks ≡ len
-      → (marks' : List ℕ) → marks' ≡ pick marking (bumped_part marks d.place.next (d.place.next + m)) marks
-      → Walking ps len marking marks₀ marks' (noted_of w d.place.next (d.place.next + m)) (past_of d m) (rest_at s q k n (at + m))
-  data_turn m h some fits a same marks' g =
-      let bs : List ℕ = bytes_from s (8 * (q + at) + k) m in
-      let l : length bs ≡ m = length-bytes s (8 * (q + at) + k) m in
-      let c : n - at ≡ m + (n - (at + m)) = omega arith in
-      let f : 8 * (q + at) + k + 8 * m ≡ 8 * (q + (at + m)) + k = omega arith in
-      let parts : rest_at s q k n at ≡ bs ++ rest_at s q k n (at + m) =
-      ap (bytes_from s (8 * (q + at) + k)) c ∙ bytes-append s (8 * (q + at) + k) m (n - (at + m)) ∙ ap (λ (y : ℕ). bs ++ bytes_from s y (n - (at + m))) f in
-      rw l at (walk_data ps len marking marks₀ marks w d bs (rest_at s q k n (at + m)) (rw parts at x) a (omega arith) (omega arith) same marks' (rw l g))
+-- found after bytes that store nothing
+pub part_after : {ps ps' rest : List Put} {size size' at at' i e to : ℕ} → ps ≡ ps' → size' ≡ size → at ≤ at' → Part ps' size' at' i e to rest → Part ps size at i e to rest
+part_after e f h p =
+    record { bytes = p.bytes; split = e ∙ p.split; some = p.some; ends = p.ends; inside = omega (arith, p.inside, f); taken = omega (arith, p.taken, h) }

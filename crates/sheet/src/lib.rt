@@ -2,25 +2,33 @@
 #![tactic(auto)]
 
 mod bits;
+mod bytes;
 mod load;
 mod marks;
+mod over;
 mod row;
+mod stores;
 mod table;
 mod walk;
 
-ghost use Rattle.std.specs.Prelude.{◌≡◌, ◌≤◌, length};
+ghost use Rattle.std.specs.Prelude.{◌≡◌, ◌≤◌, length, IfOk};
 ghost use Rattle.chain.specs.Paper.{most_streams};
+ghost use Rattle.chain.specs.KnownKinds.{kind_number};
+ghost use Rattle.chain.specs.Mode.{mode_number};
+ghost use Rattle.chain.specs.Refusal.{answered};
 ghost use Rattle.sheet.specs.Sheet.{sum, sheet_number, LoadSheet};
 
-use crate::table::{rows, zeros};
-use chain::kinds::size_of;
+use crate::table::rows;
+use chain::kinds::Kind;
+use chain::mode::Mode;
 use chain::new;
 use chain::paper::*;
+use chain::refusal::Refusal;
 
 // The figures of one stream, with its number, or the sums of all, with the call's: bytes taken, data bytes, distinct cells stored into, cells stored into
 // more than once, bits of memory that differ before and after, clock edges.
 #[repr(C)]
-#[derive(Clone, Copy)]
+#[derive(Clone, Copy, Debug, Default, PartialEq, Eq)]
 pub struct Sheet {
     pub number: u8,
     pub taken: u32,
@@ -34,48 +42,39 @@ pub struct Sheet {
 // The cells of the largest device.
 const MOST_CELLS: usize = 16381;
 
+// A row's figures.
+const FIGURES: usize = 6;
+
 // The lengths in all. They are few enough for the sum to be exact.
 fn total(lengths: &[u32]) -> usize
     requires { length lengths.now ≤ most_streams }
     ensures { result ≡ sum lengths.now }
 {
-    let n = lengths.len();
-    let mut t: usize = 0;
-    let mut i: usize = 0;
-    while i < n {
-        t += lengths[i] as usize;
-        i += 1;
-    }
-    t
+    lengths.iter().map(|n| *n as usize).sum()
 }
 
-// What refuses a sheet: numbers and figures are the lengths of the tables.
-fn number(kind: u8, mode: u8, streams: &[u8], lengths: &[u32], numbers: usize, figures: usize) -> u8
-    ensures { result ≡ sheet_number kind mode streams.now lengths.now numbers figures }
+// What refuses a sheet, or else the kind and the mode: numbers and figures are the lengths of the tables.
+fn accept(
+    kind: u8,
+    mode: u8,
+    streams: &[u8],
+    lengths: &[u32],
+    numbers: usize,
+    figures: usize,
+) -> Result<(Kind, Mode), Refusal>
+    ensures number { answered result ≡ sheet_number kind mode streams.now lengths.now numbers figures }
+    ensures named { IfOk result (λ x. (kind_number x.0 ≡ kind) × (mode_number x.1 ≡ mode)) }
 {
     let n = lengths.len();
-    if MOST_STREAMS < n {
-        return BAD_LENGTHS;
+    if MOST_STREAMS < n || total(lengths) != streams.len() || MOST_BYTES < streams.len() {
+        return Err(Refusal::BadLengths);
     }
-    if total(lengths) != streams.len() {
-        return BAD_LENGTHS;
+    let kind = Kind::try_from(kind)?;
+    let mode = Mode::try_from(mode)?;
+    if numbers < n || figures < FIGURES * n {
+        return Err(Refusal::TooShort);
     }
-    if MOST_BYTES < streams.len() {
-        return BAD_LENGTHS;
-    }
-    if size_of(kind) == 0 {
-        return BAD_CHAIN;
-    }
-    if !((FIRST_MODE <= mode) & (mode <= TWO_PREAMBLES)) {
-        return BAD_MODE;
-    }
-    if numbers < n {
-        return TOO_SHORT;
-    }
-    if figures < 6 * n {
-        return TOO_SHORT;
-    }
-    DONE
+    Ok((kind, mode))
 }
 
 // Loads the streams, which lie one after another, one for each length, and fills in a number and six figures for each. Memory before and after, and a mark
@@ -91,18 +90,17 @@ pub fn load_sheet(
     ensures { LoadSheet kind mode streams.now lengths.now numbers.old figures.old result
         numbers.new figures.new }
 {
-    let n = number(kind, mode, streams, lengths, numbers.len(), figures.len());
-    if n != DONE {
-        return zeros(n);
-    }
-    let size = size_of(kind) as usize;
+    let (kind, mode) = match accept(kind, mode, streams, lengths, numbers.len(), figures.len()) {
+        Ok(known) => known,
+        Err(refusal) => return Sheet::refused(refusal),
+    };
+    let size = usize::from(kind.size());
     let mut mem = [0u8; MOST_CELLS];
     let mut old = [0u8; MOST_CELLS];
     let mut marks = [0u8; MOST_CELLS];
-    let kinds = [kind, 0, 0, 0, 0, 0, 0, 0];
-    let m = new(1, kinds, &mem[..size]);
+    let kinds = [kind.number(), 0, 0, 0, 0, 0, 0, 0];
     rows(
-        m.chain,
+        new(1, kinds, &mem[..size]).chain,
         mode,
         streams,
         lengths,

@@ -3,25 +3,34 @@ ghost use Rattle.std.specs.Prelude.{◌≡◌, ◌+◌, ◌*◌, ◌/◌, ◌≤
 ghost use Rattle.chain.specs.Paper.{more};
 ghost use Rattle.machine.specs.Run.{run, run_of};
 ghost use Rattle.machine.specs.Calls.{fed_of};
-ghost use Rattle.hunt.specs.Hunt.{nowhere};
 ghost use Rattle.sheet.specs.Steps.{bytes_after};
 
+use crate::bytes::BytesAfter;
 use chain::Chain;
 use chain::paper::*;
 use hunt::{Bit, piece};
 use machine::{Answer, Fed, taken};
 
-// Piece by piece, from bit k of byte q on, k not 0.
-fn load_pieces(c: Chain, mem: &mut [u8], s: &[u8], q: usize, k: u8, room: &mut [u8]) -> Fed
-    requires { (0 < k) × (k < 8) × (q < length s.now) × (0 < length room.old) }
-    ensures value { result ≡ fed_of (run_of (run c mem.old more) (bytes_after s.now (8 * q + k))) }
-    ensures mem_after { mem.new ≡ (run_of (run c mem.old more) (bytes_after s.now (8 * q + k))).memory }
+// All at once, from byte q on.
+fn load_rest(c: Chain, mem: &mut [u8], s: &[u8], q: usize) -> Fed
+    requires { q ≤ length s.now }
+    ensures value { result ≡ fed_of (run_of (run c mem.old more) (bytes_after s.now (8 * q))) }
+    ensures mem_after { mem.new ≡ (run_of (run c mem.old more) (bytes_after s.now (8 * q))).memory }
+{
+    taken(c, mem, &s[q..])
+}
+
+// Piece by piece, from a bit on that is no byte's first.
+fn load_pieces(c: Chain, mem: &mut [u8], s: &[u8], start: Bit, room: &mut [u8]) -> Fed
+    requires { (0 < start.bit) × (start.bit < 8) × (start.byte < length s.now) × (0 < length room.old) }
+    ensures value { result ≡ fed_of (run_of (run c mem.old more) (bytes_after s.now (8 * start.byte + start.bit))) }
+    ensures mem_after { mem.new ≡ (run_of (run c mem.old more) (bytes_after s.now (8 * start.byte + start.bit))).memory }
 {
     let n = s.len() - 1;
     let mut d = c;
-    let mut at = q;
+    let mut at = start.byte;
     while at < n {
-        let m = piece(s, Bit { byte: at, bit: k }, room);
+        let m = piece(s, Bit { byte: at, ..start }, room);
         let f = taken(d, mem, &room[..m]);
         if f.answer.number != MORE {
             return f;
@@ -37,16 +46,14 @@ fn load_pieces(c: Chain, mem: &mut [u8], s: &[u8], q: usize, k: u8, room: &mut [
     Fed { chain: d, answer }
 }
 
-// The whole bytes from bit p on.
-pub fn load(c: Chain, mem: &mut [u8], s: &[u8], p: usize, room: &mut [u8]) -> Fed
-    requires { (p < nowhere) × ((p + 7) / 8 ≤ length s.now) × (0 < length room.old) }
-    ensures value { result ≡ fed_of (run_of (run c mem.old more) (bytes_after s.now p)) }
-    ensures mem_after { mem.new ≡ (run_of (run c mem.old more) (bytes_after s.now p)).memory }
+pub fn load(c: Chain, mem: &mut [u8], bytes: BytesAfter, room: &mut [u8]) -> Fed
+    requires { 0 < length room.old }
+    ensures value { result ≡ fed_of (run_of (run c mem.old more) (bytes_after bytes.entry.stream.now bytes.entry.p)) }
+    ensures mem_after { mem.new ≡ (run_of (run c mem.old more) (bytes_after bytes.entry.stream.now bytes.entry.p)).memory }
 {
-    let q = p >> 3;
-    let k = (p & 7) as u8;
-    if k == 0 {
-        return taken(c, mem, &s[q..]);
+    let start = bytes.start();
+    if start.bit == 0 {
+        return load_rest(c, mem, bytes.stream, start.byte);
     }
-    load_pieces(c, mem, s, q, k, room)
+    load_pieces(c, mem, bytes.stream, start, room)
 }

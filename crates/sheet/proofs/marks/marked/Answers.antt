@@ -1,31 +1,14 @@
-use borrow.Author.Rules.{rules}
-use Prim.Native.Nat.{◌<◌}
-use mathlib.Core.Logic.{⊎_elim}
-use mathlib.Core.Path.{refl}
-use native.Mathlib.Omega.{arith}
-use lib.ListN.{length}
-use Rattle.sheet.proofs.MarkLaws.{marks-begun, marks_block, marks-done}
+use Rattle.std.proofs.Common.{rules, ℕ, get_or, ◌≡◌, ◌∙◌}
+use Rattle.std.specs.Int.{from_bool}
+use lib.Dec.{leb}
+use Rattle.sheet.specs.Count.{one_if}
+use Rattle.sheet.specs.Steps.{marks_from}
+use Rattle.sheet.proofs.MarkLaws.{one_from}
 use Rattle.sheet.proofs.marks.marked.Goals as goal
 
-pub loop-i-init : goal.loop-i-init
-loop-i-init c =
-    let a = c.args in
-    (search rules, search rules, marks-begun a.marks.now a.k (length a.marks.now))
-
-pub loop-i-smaller : goal.loop-i-smaller
-loop-i-smaller c = ⊎_elim (λ e. omega arith) (λ e. omega arith) c.least.ensures.2
-
-pub loop-i-preserved : goal.loop-i-preserved
-loop-i-preserved c =
-    let l = c.loop-i in
-    let m = c.args.marks.now in
-    let b = c.least.result in
-    let some : 0 < b = ⊎_elim (λ e. omega arith) (λ e. omega arith) c.least.ensures.2 in
-    let e = marks_block m c.args.k (length m) l.i b refl (omega arith) in
-    (search rules, omega arith, omega arith)
-
+-- `sheet::marks::marked` meets its contract. Assumes nothing.
 pub returns : goal.returns
-returns c =
-    let m = c.args.marks.now in
-    let e = marks-done m c.args.k (length m) c.loop-i.i (omega arith) in
-    omega arith
+unfolding marks_from
+returns c = c.over_cells.ensures (λ (i : ℕ). one_if (leb c.args.k (get_or c.args.marks.now i 0))) (λ i r h p.
+    let e : r ≡ from_bool (leb c.args.k (get_or c.args.marks.now i 0)) = search rules in
+    e ∙ one_from (leb c.args.k (get_or c.args.marks.now i 0)))

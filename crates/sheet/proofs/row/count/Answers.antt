@@ -1,118 +1,42 @@
-use Prim.Native.Nat.{ℕ, ◌-◌, ◌≤◌, ◌<◌}
-use mathlib.Core.Path.{◌≡◌, sym, ap, subst, ◌∙◌}
-use mathlib.Core.Bool.{false}
-use mathlib.Core.List.{List}
-use native.Mathlib.Omega.{arith}
+use Rattle.std.proofs.Common.{rules, arith, ◌≡◌, ◌∙◌, ◌-◌, ◌≤◌, ◌<◌, sym, ap, ℕ, List, length, take, drop, get_or}
 use borrow.Rule.Slice.PartMut.{put_mid, same_len_mid}
-use lib.ListN.{length, get_or, take, drop, length-replicate}
-use Rattle.grammar.specs.Stores.{puts_of}
-use Rattle.sheet.specs.Steps.{bytes_after, Writing, marked, marks_from}
+use Rattle.sheet.specs.Steps.{puts_left, marked, marks_from}
 use Rattle.sheet.specs.Count.{cells_stored}
-use Rattle.sheet.proofs.Noted.{length_marked}
+use Rattle.sheet.proofs.Stored.{size_small}
 use Rattle.sheet.proofs.Counted.{part_small, ordered_cells, ordered_again, cells-between, marks_count, cleared}
 use Rattle.sheet.proofs.row.count.Goals as goal
 
 -- `sheet::row::count` meets its contract. Assumes nothing.
-pub overflow_cast-result : goal.overflow_cast-result
-overflow_cast-result c = omega (arith, c.requires.5.few)
+pub returns-then-walked : goal.returns-then-walked
+returns-then-walked c =
+    let x = c.requires.1 in
+    (ordered_cells _ _ c.args.walked x c.if-walked.true, ordered_again _ _ c.args.walked x c.if-walked.true)
 
-pub returns-then-w : goal.returns-then-w
-returns-then-w c =
-    let a = c.args in
-    let ps = puts_of a.c (bytes_after a.s.now a.p) in
-    let m = a.marks.now in
-    (ordered_cells ps (length m) false m m a.w c.requires.5 c.if-w.true, ordered_again ps (length m) false m m a.w c.requires.5 c.if-w.true)
+pub marked-requires : goal.marked-requires
+marked-requires c =
+    let s = c.args.stores in
+    part_small _ c.args.walked.low c.args.walked.top (omega (arith, size_small s.chain s.size s.writing, c.requires.0, c.mark_all.auto.marks))
 
-pub slice_bounds-clear-start : goal.slice_bounds-clear-start
-slice_bounds-clear-start c = omega (arith, c.requires.5.order)
-
-pub slice_bounds-clear-end : goal.slice_bounds-clear-end
-slice_bounds-clear-end c = omega (arith, c.requires.5.inside)
-
-pub walk-requires : goal.walk-requires
-walk-requires c =
-    let a = c.args in
-    let m = a.marks.now in
-    let low = a.w.low in
-    let top = a.w.top in
-    let ys = c.clear.new.marks in
-    let le : length (put_mid low (top - low) m ys) ≡ length m = same_len_mid low (top - low) m ys (ap (λ (l : List ℕ). length l) c.clear.ensures ∙ length-replicate {A = ℕ} (length (take (top - low) (drop low m))) 0) in
-    (subst (λ (n : ℕ). Writing a.c n) (sym le) c.requires.0, c.requires.1, c.requires.2, c.requires.3)
-
-pub slice_bounds-marked-start : goal.slice_bounds-marked-start
-slice_bounds-marked-start c = omega (arith, c.requires.5.order)
-
-pub slice_bounds-marked-end : goal.slice_bounds-marked-end
-slice_bounds-marked-end c =
-    let a = c.args in
-    let m = a.marks.now in
-    let low = a.w.low in
-    let top = a.w.top in
-    let ys = c.clear.new.marks in
-    let le : length (put_mid low (top - low) m ys) ≡ length m = same_len_mid low (top - low) m ys (ap (λ (l : List ℕ). length l) c.clear.ensures ∙ length-replicate {A = ℕ} (length (take (top - low) (drop low m))) 0) in
-    let k = ap (λ (l : List ℕ). length l) c.walk.ensures.marks_left ∙ length_marked (puts_of a.c (bytes_after a.s.now a.p)) (put_mid low (top - low) m ys) ∙ le in
-    omega (arith, c.requires.5.inside, k)
-
-pub marked-cells-requires : goal.marked-cells-requires
-marked-cells-requires c =
-    let a = c.args in
-    let m = a.marks.now in
-    let low = a.w.low in
-    let top = a.w.top in
-    let ys = c.clear.new.marks in
-    let le : length (put_mid low (top - low) m ys) ≡ length m = same_len_mid low (top - low) m ys (ap (λ (l : List ℕ). length l) c.clear.ensures ∙ length-replicate {A = ℕ} (length (take (top - low) (drop low m))) 0) in
-    let k = ap (λ (l : List ℕ). length l) c.walk.ensures.marks_left ∙ length_marked (puts_of a.c (bytes_after a.s.now a.p)) (put_mid low (top - low) m ys) ∙ le in
-    part_small _ low top (omega (arith, c.requires.4, k))
-
-pub slice_bounds-marked-start-2 : goal.slice_bounds-marked-start-2
-slice_bounds-marked-start-2 c = omega (arith, c.requires.5.order)
-
-pub slice_bounds-marked-end-2 : goal.slice_bounds-marked-end-2
-slice_bounds-marked-end-2 c =
-    let a = c.args in
-    let m = a.marks.now in
-    let low = a.w.low in
-    let top = a.w.top in
-    let ys = c.clear.new.marks in
-    let le : length (put_mid low (top - low) m ys) ≡ length m = same_len_mid low (top - low) m ys (ap (λ (l : List ℕ). length l) c.clear.ensures ∙ length-replicate {A = ℕ} (length (take (top - low) (drop low m))) 0) in
-    let k = ap (λ (l : List ℕ). length l) c.walk.ensures.marks_left ∙ length_marked (puts_of a.c (bytes_after a.s.now a.p)) (put_mid low (top - low) m ys) ∙ le in
-    omega (arith, c.requires.5.inside, k)
-
-pub marked-again-requires : goal.marked-again-requires
-marked-again-requires c =
-    let a = c.args in
-    let m = a.marks.now in
-    let low = a.w.low in
-    let top = a.w.top in
-    let ys = c.clear.new.marks in
-    let le : length (put_mid low (top - low) m ys) ≡ length m = same_len_mid low (top - low) m ys (ap (λ (l : List ℕ). length l) c.clear.ensures ∙ length-replicate {A = ℕ} (length (take (top - low) (drop low m))) 0) in
-    let k = ap (λ (l : List ℕ). length l) c.walk.ensures.marks_left ∙ length_marked (puts_of a.c (bytes_after a.s.now a.p)) (put_mid low (top - low) m ys) ∙ le in
-    part_small _ low top (omega (arith, c.requires.4, k))
-
-pub shape_of-marks : goal.shape_of-marks
-shape_of-marks c =
-    let a = c.args in
-    let m = a.marks.now in
-    let low = a.w.low in
-    let top = a.w.top in
-    let ys = c.clear.new.marks in
-    let le : length (put_mid low (top - low) m ys) ≡ length m = same_len_mid low (top - low) m ys (ap (λ (l : List ℕ). length l) c.clear.ensures ∙ length-replicate {A = ℕ} (length (take (top - low) (drop low m))) 0) in
-    ap (λ (l : List ℕ). length l) c.walk.ensures.marks_left ∙ length_marked (puts_of a.c (bytes_after a.s.now a.p)) (put_mid low (top - low) m ys) ∙ le
+pub marked-requires-2 : goal.marked-requires-2
+marked-requires-2 c =
+    let s = c.args.stores in
+    part_small _ c.args.walked.low c.args.walked.top (omega (arith, size_small s.chain s.size s.writing, c.requires.0, c.mark_all.auto.marks))
 
 pub returns : goal.returns
 returns c =
-    let a = c.args in
-    let m = a.marks.now in
-    let low = a.w.low in
-    let top = a.w.top in
-    let ys = c.clear.new.marks in
-    let le : length (put_mid low (top - low) m ys) ≡ length m = same_len_mid low (top - low) m ys (ap (λ (l : List ℕ). length l) c.clear.ensures ∙ length-replicate {A = ℕ} (length (take (top - low) (drop low m))) 0) in
-    let ps = puts_of a.c (bytes_after a.s.now a.p) in
+    let s = c.args.stores in
+    let ps = puts_left s.chain s.bytes.stream.now s.bytes.p s.at in
+    let m = c.args.marks.now in
+    let low = c.args.walked.low in
+    let top = c.args.walked.top in
+    let ys = c.fill.new.self in
     let after : List ℕ = put_mid low (top - low) m ys in
-    let x = c.requires.5 in
-    let z : (j : ℕ) → low ≤ j → j < top → get_or after j 0 ≡ 0 = λ j h g. ap (λ (l : List ℕ). get_or (put_mid low (top - low) m l) j 0) c.clear.ensures ∙ cleared m low top j h g x.inside in
-    let left = c.walk.ensures.marks_left in
-    let told : (l : List ℕ) → l ≡ marked after ps → (k : ℕ) → 0 < k → k ≤ 2 → marks_from (take (top - low) (drop low l)) k 0 (length (take (top - low) (drop low l))) ≡ cells_stored (length m) k ps =
+    let le : length after ≡ length m = same_len_mid low (top - low) m ys c.fill.ensures.len in
+    let x = c.requires.1 in
+    let zero = c.fill.ensures.after (λ y h. search rules) in
+    let z : (j : ℕ) → low ≤ j → j < top → get_or after j 0 ≡ 0 =
+    λ j h g. ap (λ (l : List ℕ). get_or (put_mid low (top - low) m l) j 0) zero ∙ cleared m low top j h g (omega (arith, x.inside, c.requires.0)) in
+    let told : (l : List ℕ) → l ≡ marked after ps → (k : ℕ) → 0 < k → k ≤ 2 → marks_from (take (top - low) (drop low l)) k 0 (length (take (top - low) (drop low l))) ≡ cells_stored s.size k ps =
     λ l e k h g. ap (λ (y : List ℕ). marks_from (take (top - low) (drop low y)) k 0 (length (take (top - low) (drop low y)))) e
-    ∙ marks_count ps after low top k g x.order (omega (arith, x.inside, le)) z ∙ sym (cells-between ps (length m) false m m a.w x k h) in
-    (c.marked-cells.ensures ∙ told _ left 1 (omega arith) (omega arith), c.marked-again.ensures ∙ told _ left 2 (omega arith) (omega arith))
+    ∙ marks_count ps after low top k g x.order (omega (arith, x.inside, le, c.requires.0)) z ∙ sym (cells-between ps s.size c.args.walked x k h) in
+    (c.marked.ensures ∙ told _ c.mark_all.ensures 1 (omega arith) (omega arith), c.marked-2.ensures ∙ told _ c.mark_all.ensures 2 (omega arith) (omega arith))

@@ -1,81 +1,92 @@
-use borrow.Author.Rules.{rules}
-use Prim.Native.Nat.{ℕ, ◌≤◌}
-use mathlib.Core.Path.{◌≡◌, sym, ap, subst, ◌∙◌}
-use mathlib.Core.List.{List}
-use native.Mathlib.Omega.{arith}
-use lib.ListN.{length}
-use Rattle.chain.specs.declared.Chain.{Chain}
+use Rattle.std.proofs.Common.{rules, arith, refl, ◌≡◌, ◌∙◌, sym, ap, ℕ, ◌≤◌, List, length}
+use Rattle.chain.specs.declared.Place.{Place}
 use Rattle.chain.specs.declared.Made.{Made}
-use Rattle.chain.specs.Paper.{most_bytes, more}
-use Rattle.chain.specs.Set.{with_place, closed_place}
+use Rattle.chain.specs.Mode.{mode_number}
+use Rattle.chain.specs.Paper.{writing}
+use Rattle.chain.specs.Set.{with_place}
 use Rattle.chain.proofs.Bytes.{bytes_by}
-use Rattle.machine.specs.declared.Fed.{Fed}
-use Rattle.machine.specs.Run.{Run, run, run_of}
-use Rattle.machine.specs.Calls.{fed_of}
-use Rattle.grammar.specs.Stores.{puts_of, put_into}
-use Rattle.grammar.proofs.Walk.{run_puts}
-use Rattle.sheet.specs.Stream.{Device, device, started}
-use Rattle.sheet.specs.Steps.{bytes_after, Writing}
+use Rattle.hunt.specs.Hunt.{nowhere}
+use Rattle.machine.specs.Calls.{start_of}
+use Rattle.grammar.specs.Stores.{put_into}
+use Rattle.sheet.specs.Stream.{Device, device, started, shift_of}
+use Rattle.sheet.specs.Steps.{puts_left, row_from}
 use Rattle.sheet.proofs.Left.{Idle}
-use Rattle.sheet.proofs.Loading.{begins-inside, ready_size, started-writing, taken_few, row_is, row_same, chain_left, memory-left, unfound_row_lem, unfound-left}
+use Rattle.sheet.proofs.Loading.{mode_known, begins-inside, ready_size, opened_writing, opened_few, opened_memory, opened_row, opened_chain, opened_left, unfound_row_lem, unfound-left}
 use Rattle.sheet.proofs.row.stream.Goals as goal
 
 -- `sheet::row::stream` meets its contract. Assumes nothing.
-pub returns-then-p-ge-NOWHERE : goal.returns-then-p-ge-NOWHERE
-returns-then-p-ge-NOWHERE c =
+pub returns-in_default : goal.returns-in_default
+returns-in_default c =
     let a = c.args in
+    let k = mode_number a.mode in
     let d : Device = device a.c a.mem.now in
-    let e = c.position-p.ensures.0 in
-    let l = unfound-left d a.mode a.s.now c.position-p.result e c.if-p-ge-NOWHERE.true in
-    record { row_value = c.unfound-row.ensures ∙ unfound_row_lem d a.mode a.s.now c.position-p.result e c.if-p-ge-NOWHERE.true; chain_value = ap (λ (x : Device). x.chain) l; mem_after = ap (λ (x : Device). x.memory) l; after = c.requires.3 ∙ ap (λ (x : Device). x.memory) l }
+    let h : nowhere ≤ shift_of k a.s.now = omega (arith, c.in_default.ensures) in
+    let l = unfound-left d k a.s.now _ refl h in
+    record {
+      row_value = c.unfound.ensures ∙ unfound_row_lem d k a.s.now _ refl h;
+      chain_value = ap (λ (x : Device). x.chain) l;
+      mem_after = ap (λ (x : Device). x.memory) l;
+      after = c.requires.2 ∙ ap (λ (x : Device). x.memory) l;
+    }
 
-pub load-f-requires : goal.load-f-requires
-load-f-requires c =
+pub invariant_of-bytes : goal.invariant_of-bytes
+invariant_of-bytes c =
+    let e = c.in-Some.ensures in
+    record { near = e.1; inside = begins-inside (mode_number c.args.mode) c.args.s.now c.in-Some.p e.0 e.1; few = c.requires.1 }
+
+pub load-fed-requires : goal.load-fed-requires
+load-fed-requires c = omega (arith, c.requires.3, (ready_size c.args.c (length c.args.mem.now) c.requires.0).0)
+
+pub invariant_of-stores : goal.invariant_of-stores
+invariant_of-stores c =
     let a = c.args in
-    (c.if-p-ge-NOWHERE.false, begins-inside a.mode a.s.now c.position-p.result c.position-p.ensures.0 c.if-p-ge-NOWHERE.false, omega (arith, c.requires.4, (ready_size a.c (length a.mem.now) c.requires.0).0))
+    let k = mode_number a.mode in
+    let mem = a.mem.now in
+    let p = c.in-Some.p in
+    let e = c.in-Some.ensures in
+    let u = bytes_by a.s.now (λ i h. (c.type_inv.s i).fits) in
+    let i : Idle (device a.c mem) = record { ready = c.requires.0; bytes = bytes_by mem (λ i h. search rules) } in
+    let st : c.start.result.chain ≡ started (device a.c mem) k = ap (λ (x : Made). x.chain) c.start.ensures.made ∙ ap (λ (x : ℕ). (start_of a.c (length mem) x writing).chain) c.number.ensures in
+    record {
+      writing = opened_writing (device a.c mem) k a.s.now i (mode_known a.mode) u p e.0 e.1 _ st _ c.load-fed.ensures.value _ c.load-fed.ensures.mem_after;
+      within = omega arith;
+    }
 
 pub row-row-requires : goal.row-row-requires
 row-row-requires c =
     let a = c.args in
-    let s = a.s.now in
+    let k = mode_number a.mode in
     let mem = a.mem.now in
-    let p = c.position-p.result in
-    let e = c.position-p.ensures.0 in
-    let d : Device = device a.c mem in
-    let u = bytes_by s (λ i h. (c.type_inv.s i).fits) in
-    let i : Idle d = record { ready = c.requires.0; bytes = bytes_by mem (λ i h. search rules) } in
-    let st : c.start-o.result.chain ≡ started d a.mode = ap (λ (x : Made). x.chain) c.start-o.ensures.made in
-    let r : Run = run_of (run (started d a.mode) mem more) (bytes_after s p) in
-    let f : c.load-f.result ≡ fed_of r = c.load-f.ensures.value ∙ ap (λ (c : Chain). fed_of (run_of (run c mem more) (bytes_after s p))) st in (
-      subst (λ (c : Chain). Writing c (length a.old.now)) (sym st) (subst (λ (m : List ℕ). Writing (started d a.mode) (length m)) (sym c.requires.3) (started-writing d a.mode i c.requires.1)),
-      c.if-p-ge-NOWHERE.false,
-      begins-inside a.mode s p e c.if-p-ge-NOWHERE.false,
-      c.requires.2,
-      omega (arith, ap (λ (m : List ℕ). length m) c.requires.3, (ready_size a.c (length mem) c.requires.0).1),
-      search (rules, c.load-f.auto, c.requires.4, ap (λ (m : List ℕ). length m) c.requires.3),
-      subst (λ (x : Fed). x.answer.taken ≤ most_bytes) (sym f) (taken_few d a.mode s i c.requires.1 u p e c.if-p-ge-NOWHERE.false c.requires.2),
-      c.load-f.ensures.mem_after ∙ run_puts (bytes_after s p) c.start-o.result.chain mem ∙ ap (put_into (puts_of c.start-o.result.chain (bytes_after s p))) (sym c.requires.3),
+    let p = c.in-Some.p in
+    let e = c.in-Some.ensures in
+    let u = bytes_by a.s.now (λ i h. (c.type_inv.s i).fits) in
+    let i : Idle (device a.c mem) = record { ready = c.requires.0; bytes = bytes_by mem (λ i h. search rules) } in
+    let st : c.start.result.chain ≡ started (device a.c mem) k = ap (λ (x : Made). x.chain) c.start.ensures.made ∙ ap (λ (x : ℕ). (start_of a.c (length mem) x writing).chain) c.number.ensures in
+    let old : length a.old.now ≡ length mem = ap (λ (m : List ℕ). length m) c.requires.2 in
+    (
+      omega (arith, old, c.load-fed.auto.mem),
+      omega (arith, old, c.load-fed.auto.room, c.requires.3),
+      opened_few (device a.c mem) k a.s.now i (mode_known a.mode) u p e.0 e.1 _ st _ c.load-fed.ensures.value _ c.load-fed.ensures.mem_after c.requires.1,
+      opened_memory (device a.c mem) k a.s.now i (mode_known a.mode) u p e.0 e.1 _ st _ c.load-fed.ensures.value _ c.load-fed.ensures.mem_after
+          ∙ ap (put_into (puts_left c.start.result.chain a.s.now p 0)) (sym c.requires.2),
     )
 
 pub returns : goal.returns
 returns c =
     let a = c.args in
-    let s = a.s.now in
+    let k = mode_number a.mode in
     let mem = a.mem.now in
-    let p = c.position-p.result in
-    let e = c.position-p.ensures.0 in
-    let d : Device = device a.c mem in
-    let u = bytes_by s (λ i h. (c.type_inv.s i).fits) in
-    let i : Idle d = record { ready = c.requires.0; bytes = bytes_by mem (λ i h. search rules) } in
-    let st : c.start-o.result.chain ≡ started d a.mode = ap (λ (x : Made). x.chain) c.start-o.ensures.made in
-    let r : Run = run_of (run (started d a.mode) mem more) (bytes_after s p) in
-    let f : c.load-f.result ≡ fed_of r = c.load-f.ensures.value ∙ ap (λ (c : Chain). fed_of (run_of (run c mem more) (bytes_after s p))) st in
-    let g = c.load-f.ensures.mem_after ∙ ap (λ (c : Chain). (run_of (run c mem more) (bytes_after s p)).memory) st in
-    let l = memory-left d a.mode s i c.requires.1 u p e c.if-p-ge-NOWHERE.false in
+    let p = c.in-Some.p in
+    let e = c.in-Some.ensures in
+    let u = bytes_by a.s.now (λ i h. (c.type_inv.s i).fits) in
+    let i : Idle (device a.c mem) = record { ready = c.requires.0; bytes = bytes_by mem (λ i h. search rules) } in
+    let st : c.start.result.chain ≡ started (device a.c mem) k = ap (λ (x : Made). x.chain) c.start.ensures.made ∙ ap (λ (x : ℕ). (start_of a.c (length mem) x writing).chain) c.number.ensures in
+    let l = opened_left (device a.c mem) k a.s.now i (mode_known a.mode) u p e.0 e.1 _ st _ c.load-fed.ensures.value _ c.load-fed.ensures.mem_after in
     record {
-      row_value = c.row-row.ensures.value ∙ row_same a.mode p (bytes_after s p) (ap (λ (y : Fed). y.answer) f) st c.requires.3 g
-          ∙ row_is d a.mode s i c.requires.1 u p e c.if-p-ge-NOWHERE.false;
-      chain_value = c.closed-chain.ensures ∙ ap (λ (y : Fed). with_place y.chain closed_place) f ∙ chain_left d a.mode s i c.requires.1 u p e c.if-p-ge-NOWHERE.false;
-      mem_after = g ∙ l;
-      after = c.row-row.ensures.after ∙ g ∙ l;
+      row_value = opened_row (device a.c mem) k a.s.now i (mode_known a.mode) u p e.0 e.1 _ st _ c.load-fed.ensures.value _ c.load-fed.ensures.mem_after _
+          (c.row-row.ensures.value ∙ ap (λ (m : List ℕ). row_from k p c.load-fed.result.answer (puts_left c.start.result.chain a.s.now p 0) m c.load-fed.new.mem) c.requires.2);
+      chain_value = ap (λ (x : Place). with_place c.load-fed.result.chain x) c.closed_place.ensures
+          ∙ opened_chain (device a.c mem) k a.s.now i (mode_known a.mode) u p e.0 e.1 _ st _ c.load-fed.ensures.value _ c.load-fed.ensures.mem_after;
+      mem_after = l;
+      after = c.row-row.ensures.after ∙ l;
     }

@@ -1,18 +1,18 @@
-use Rattle.std.proofs.Common.{◌-◌, ◌≡◌, ◌≤◌, length}
-use Rattle.grammar.specs.Stores.{puts_of}
-use Rattle.sheet.specs.Steps.{rest_at}
+use Rattle.std.proofs.Common.{◌≡◌, ◌≤◌}
+use Rattle.sheet.specs.Steps.{puts_left}
 use Rattle.sheet.proofs.Noted.{Walking}
 use Rattle.sheet.proofs.walk.walk.Given as goal
 
--- the stores so far are those of the first bytes up to `at`
-abbrev pub invariant-loop-at : goal.invariant-loop-at
-invariant-loop-at l =
+-- `sheet::walk::walk` meets its contract. The invariant: what is noted is of the stores so far, each of a byte that is passed. Assumes nothing.
+abbrev pub invariant-loop-cells : goal.invariant-loop-cells
+invariant-loop-cells l =
+    let a = l.fn.stores in
+    let b = l.cells-iterator in
     record {
-      within : l.at ≤ l.n;
-      few : l.w.stored ≤ l.at;
-      same : length l.marks ≡ length l.fn.marks;
-      walking : Walking (puts_of l.fn.c (rest_at l.s l.q l.k l.n 0)) (length l.fn.marks) l.marking l.fn.marks l.marks l.w l.d (rest_at l.s l.q l.k l.n l.at);
+      can : (goal.iterator-loop-cells).can_next b;
+      ends : (goal.iterator-loop-cells).is_finite b;
+      size : b.size ≡ a.size;
+      bytes : b.bytes ≡ a.bytes;
+      few : l.walked.stored ≤ b.at;
+      walking : Walking (puts_left a.chain a.bytes.stream.now a.bytes.p a.at) a.size l.walked (puts_left b.chain b.bytes.stream.now b.bytes.p b.at);
     }
-
-abbrev pub decreases-loop-at : goal.decreases-loop-at
-decreases-loop-at l = l.n - l.at
