@@ -6,11 +6,7 @@ use native.Mathlib.Nat.{zero-add}
 use native.Mathlib.Omega.{arith}
 use borrow.Rule.Slice.PartMut.{put_mid, Post-is}
 use lib.ListN.{length, set, take, drop, length-drop}
-use lib.Seq.{sets, sets-eq, take_all, take_at, drop-drop, drop-length, length-sets}
-use Rattle.std.proofs.Common.{min, ◌⊎◌, inl, inr, ◌<◌}
-use Rattle.std.proofs.lemmas.Bool.{cases_lt}
-use Rattle.std.proofs.lemmas.List.{length-take-le, take-append-drop}
-use Rattle.cells.proofs.Count.{copy_end}
+use lib.Seq.{sets, sets-eq, take_all, take_at, drop-drop, drop-length}
 
 -- over the front: the bytes, then the rest as it was
 pub sets-front : (bs out : List ℕ) → length bs ≤ length out → sets out 0 bs ≡ bs ++ drop (length bs) out
@@ -37,19 +33,3 @@ tail-back xs ys bs i h e =
     let f : length bs ≤ length (drop i xs) = omega (arith, length-drop i xs) in
     rw (e, take_all (length xs - i) (drop i xs) l, sets-front bs (drop i xs) f, drop-drop (length bs) i xs, Post-is i (length xs) xs (omega arith), drop-length xs, append-nil (bs ++ drop (i + length bs) xs))
     (sym (sets-eq bs xs i h ∙ append_assoc (take i xs) bs (drop (i + length bs) xs)))
-
--- a copy goes as far as the shorter of the two
-pub copied : (d s : List ℕ) (n : ℕ) → n ≡ min (length d) (length s) → take n s ++ drop n d ≡ sets d 0 s
-copied d s n least =
-    let front = take n s in
-    let long : length front ≡ n = length-take-le n s (omega (arith, least)) in
-    let at : 0 + length front ≡ n = omega (arith, long) in
-    let laid : front ++ drop n d ≡ sets d 0 front = sym (sets-front front d (omega (arith, long, least)) ∙ ap (λ (k : ℕ). front ++ drop k d) long) in
-    let past : sets (sets d 0 front) n (drop n s) ≡ sets d 0 front = copy_end (sets d 0 front) s n (shorter (cases_lt (length d) (length s))) in
-    let both : sets d 0 (front ++ drop n s) ≡ sets (sets d 0 front) n (drop n s) =
-    sets-append front (drop n s) d 0 ∙ ap (λ (k : ℕ). sets (sets d 0 front) k (drop n s)) at in
-    laid ∙ sym past ∙ sym both ∙ ap (λ (xs : List ℕ). sets d 0 xs) (take-append-drop n s)
-  where
-    shorter : (length d < length s) ⊎ (length s ≤ length d) → (length (sets d 0 (take n s)) ≤ n) ⊎ (length s ≤ n)
-    shorter (inl h) = inl (omega (arith, least, h, length-sets d 0 (take n s)))
-    shorter (inr h) = inr (omega (arith, least, h))

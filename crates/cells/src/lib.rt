@@ -12,12 +12,15 @@ pub fn least(a: usize, b: usize) -> usize
     a.min(b)
 }
 
-// Copies src over the front of dst.
+// Copies src over the front of dst. A loop, which the compiler runs on vectors of bytes: a call of the C library's copy takes stack that a
+// sleeping controller has not.
 pub fn copy(dst: &mut [u8], src: &[u8])
     ensures { dst.new ≡ sets dst.old 0 src.now }
 {
     let n = dst.len().min(src.len());
-    dst[..n].copy_from_slice(&src[..n]);
+    for i in 0..n {
+        dst[i] = src[i];
+    }
 }
 
 // 1 where two bytes differ, else 0.

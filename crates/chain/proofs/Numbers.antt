@@ -23,18 +23,6 @@ module _ (c : Chain) (len : ℕ) where
   unfolding feed_number
   feed_none h = first-none (feed_rules c len []) done tt h
 
--- 4 is given where 1 and 17 are not
-pub open_of_state : (c : Chain) (len : ℕ) → open_number c len ≡ pick (eqb (state_number c len) done) (pick (eqb c.place.running closed) no_run done) (state_number c len)
-unfolding state_number open_number
-open_of_state c len = each (is_bad_chain c.count c.kinds len) (is_ill_formed c) (eqb c.place.running closed)
-  where
-    each : (b i r : Bool)
-        → pick b bad_chain (pick i ill_formed (pick r no_run done))
-        ≡ pick (eqb (pick b bad_chain (pick i ill_formed done)) done) (pick r no_run done) (pick b bad_chain (pick i ill_formed done))
-    each true i r = refl
-    each false true r = refl
-    each false false r = refl
-
 -- 4 comes after 1 and 17: without it what a call gives that wants a run open is what every call gives
 pub state_of_open : (c : Chain) (len : ℕ) → state_number c len ≡ pick (eqb (open_number c len) no_run) done (open_number c len)
 unfolding state_number open_number

@@ -26,8 +26,8 @@ pub fn with8(xs: [u8; 8], i: u8, v: u8) -> [u8; 8]
 pub fn unused_zero(xs: [u8; 8], n: u8) -> bool
     ensures { result ≡ unused_zero xs n }
 {
-    for x in &xs[usize::from(n).min(8)..] {
-        if *x != 0 {
+    for (i, x) in xs.iter().enumerate() {
+        if (usize::from(n) <= i) & (*x != 0) {
             return false;
         }
     }

@@ -167,32 +167,37 @@ pub fn ill_formed(c: Chain) -> bool
     !((running == OPENED) & well_formed(c, true))
 }
 
-// What refuses every call on a state: 1, then 17.
-pub fn sound(c: Chain, len: usize) -> Result<(), Refusal>
-    ensures { answered result ≡ state_number c len }
+// What refuses a call that wants a run open: 1, then 17, then 4. One function for all calls, so that the test stands in the archive once.
+#[inline(never)]
+pub fn open(c: Chain, len: usize) -> Result<(), Refusal>
+    ensures { answered result ≡ open_number c len }
 {
-    let ks = c.kinds;
-    if bad_chain(c.count, ks, len) {
+    if bad_chain(c.count, c.kinds, len) {
         return Err(Refusal::BadChain);
     }
     if ill_formed(c) {
         return Err(Refusal::IllFormed);
     }
-    Ok(())
-}
-
-// And a call that wants a run open: 4.
-pub fn open(c: Chain, len: usize) -> Result<(), Refusal>
-    ensures { answered result ≡ open_number c len }
-{
-    sound(c, len)?;
     if c.place.running == CLOSED {
         return Err(Refusal::NoRun);
     }
     Ok(())
 }
 
-// And a call that feeds bytes: the same.
+// And every call on a state: 1, then 17.
+pub fn sound(c: Chain, len: usize) -> Result<(), Refusal>
+    ensures { answered result ≡ state_number c len }
+{
+    match open(c, len) {
+        Ok(()) => Ok(()),
+        Err(refusal) => match refusal {
+            Refusal::NoRun => Ok(()),
+            other => Err(other),
+        },
+    }
+}
+
+// And a call that feeds bytes.
 pub fn fed(c: Chain, len: usize) -> Result<(), Refusal>
     ensures { answered result ≡ feed_number c len }
 {

@@ -1,5 +1,15 @@
-use Rattle.cells.proofs.Over.{copied}
+use Rattle.std.proofs.Common.{rules, ◌⊎◌, ◌≤◌, ◌<◌, inl, inr, length, arith}
+use mathlib.Core.Path.{◌∙◌, sym}
+use Rattle.std.proofs.lemmas.Bool.{cases_lt}
+use Rattle.cells.proofs.Count.{copy_end}
 use Rattle.cells.proofs.copy.Goals as goal
 
 pub returns : goal.returns
-returns c = rw c.copy_from_slice.ensures.after (copied c.args.dst.now c.args.src.now c.min-n.result c.min-n.ensures)
+returns c =
+    let l = c.loop-i in
+    sym (l.invariant.done ∙ copy_end l.dst c.args.src.now l.i (shorter (cases_lt (length c.args.dst.now) (length c.args.src.now))))
+  where
+    shorter : (length c.args.dst.now < length c.args.src.now) ⊎ (length c.args.src.now ≤ length c.args.dst.now)
+        → (length c.loop-i.dst ≤ c.loop-i.i) ⊎ (length c.args.src.now ≤ c.loop-i.i)
+    shorter (inl h) = inl (omega (arith, h, c.min-n.ensures, c.loop-i-test.false, c.loop-i.invariant.long))
+    shorter (inr h) = inr (omega (arith, h, c.min-n.ensures, c.loop-i-test.false))
