@@ -56,21 +56,17 @@ fn spelled_fetcher(s: &mut Args) -> Fetcher {
 
 // The call m fills memory: a, a + b, a + 2b and so on.
 pub fn fill(call: Call, mem: &mut [u8]) {
-    if call.letter == b'm' {
-        let mut next = call.a;
-        for cell in mem {
-            *cell = next;
-            next = next.wrapping_add(call.b);
-        }
+    let mut next = call.a;
+    for cell in mem {
+        *cell = next;
+        next = next.wrapping_add(call.b);
     }
 }
 
 // The call e lays bytes into the EPROM from an address on.
 pub fn burn(call: Call, e: &mut [u8], args: &[u8]) {
-    if call.letter == b'e' {
-        let from = call.mem.min(e.len());
-        cells::copy(&mut e[from..], args);
-    }
+    let from = call.mem.min(e.len());
+    cells::copy(&mut e[from..], args);
 }
 
 fn answer(to: &impl Print, a: Answer) -> io::Result<()> {
@@ -81,6 +77,7 @@ fn written(to: &impl Print, w: Written) -> io::Result<()> {
     print!(to; " {:02x} {:08x}", w.number, w.length)
 }
 
+// Kept: C interface: the writer and the lister take their tables beside one another (two places).
 fn write(to: &impl Print, call: Call, args: &[u8], out: &mut [u8]) -> io::Result<()> {
     let mut starts = [0; ENTRIES];
     let mut ends = [0; ENTRIES];
@@ -193,7 +190,7 @@ impl Board {
     }
 
     // Makes the call with what it is lent. Any other letter leaves all as it is.
-    // Kept: no plainer: the script's letters are matched here alone, each beside its call.
+    // Kept: no plainer: each letter stands beside its call, where an enum of them would name it once more.
     pub fn make(
         &mut self,
         to: &impl Print,

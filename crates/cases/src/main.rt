@@ -43,57 +43,68 @@ fn next_call(from: &mut impl Read) -> io::Result<Option<Call>> {
     Ok(filled(from, &mut head)?.then(|| Call::from(head)))
 }
 
-// Makes a call with its arguments, of which the last may be missing. The line has its letter and the answers, then what it wrote into the output, then
-// what it changed in memory; where it is a call that fills memory or the EPROM, that comes before.
-fn make(
-    from: &mut impl Read,
-    to: &impl Print,
-    call: Call,
-    board: &mut Board,
-    mem: &mut [u8],
-    e: &mut [u8],
-) -> io::Result<()> {
-    let mut args = [0; ROOM];
-    let args = &mut args[..call.args.min(ROOM)];
-    filled(from, args)?;
-    let m = call.mem.min(mem.len());
-    let mem = &mut mem[..m];
-    calls::fill(call, mem);
-    calls::burn(call, e, args);
-    let mut old = [0; CELLS];
-    cells::copy(&mut old, mem);
-    let blank = [LENT; ROOM];
-    let mut out = [LENT; ROOM];
-    let out = &mut out[..call.out.min(ROOM)];
-    to.write_all(&[call.letter])?;
-    board.make(to, call, args, mem, e, out)?;
-    let written = Changes {
-        mark: '>',
-        bytes: out,
-        old: &blank,
-    };
-    let stored = Changes {
-        mark: '@',
-        bytes: mem,
-        old: &old,
-    };
-    println!(to; "{written}{stored}")
+// What goes from call to call: the board, its memory and its EPROM.
+#[derive(Drop)]
+struct Bench {
+    board: Board,
+    mem: [u8; CELLS],
+    eprom: [u8; EPROM],
 }
 
-// Nothing says that the input ends, so the calls are counted down, from more than any script has.
-fn run(from: &mut impl Read, to: &impl Print, mem: &mut [u8], e: &mut [u8]) -> io::Result<()> {
-    let mut board = Board::new();
-    for _ in 0..u64::MAX {
-        let Some(call) = next_call(from)? else {
-            return Ok(());
-        };
-        make(from, to, call, &mut board, mem, e)?;
+impl Bench {
+    fn new() -> Bench {
+        Bench {
+            board: Board::new(),
+            mem: [0; CELLS],
+            eprom: [ERASED; EPROM],
+        }
     }
-    Ok(())
+
+    // Makes a call with its arguments, of which the last may be missing. The line has its letter and the answers, then what it wrote into the output,
+    // then what it changed in memory; where it is a call that fills memory or the EPROM, that comes before.
+    fn make(&mut self, from: &mut impl Read, to: &impl Print, call: Call) -> io::Result<()> {
+        let Bench { board, mem, eprom } = self;
+        let mem = &mut mem[..call.mem.min(CELLS)];
+        let mut args = [0; ROOM];
+        let args = &mut args[..call.args.min(ROOM)];
+        filled(from, args)?;
+        match call.letter {
+            b'm' => calls::fill(call, mem),
+            b'e' => calls::burn(call, eprom, args),
+            _ => {}
+        }
+        let mut old = [0; CELLS];
+        cells::copy(&mut old, mem);
+        let blank = [LENT; ROOM];
+        let mut out = [LENT; ROOM];
+        let out = &mut out[..call.out.min(ROOM)];
+        to.write_all(&[call.letter])?;
+        board.make(to, call, args, mem, eprom, out)?;
+        let written = Changes {
+            mark: '>',
+            bytes: out,
+            old: &blank,
+        };
+        let stored = Changes {
+            mark: '@',
+            bytes: mem,
+            old: &old,
+        };
+        println!(to; "{written}{stored}")
+    }
+
+    // Nothing says that the input ends, so the calls are counted down, from more than any script has.
+    fn run(&mut self, from: &mut impl Read, to: &impl Print) -> io::Result<()> {
+        for _ in 0..u64::MAX {
+            let Some(call) = next_call(from)? else {
+                break;
+            };
+            self.make(from, to, call)?;
+        }
+        Ok(())
+    }
 }
 
 fn main(rt: HostRuntime) -> io::Result<()> {
-    let mut mem = [0; CELLS];
-    let mut e = [ERASED; EPROM];
-    run(&mut rt.stdin(), &rt, &mut mem, &mut e)
+    Bench::new().run(&mut rt.stdin(), &rt)
 }

@@ -48,7 +48,7 @@ pub fn load(to: &impl Print, call: Call, args: &[u8], numbers: &mut [u8]) -> io:
     let mut args = Args::new(args);
     let m = args.long() as usize;
     let n = args.long() as usize;
-    if (m <= FEW_LENGTHS) & (n <= FEW_FIGURES) {
+    if m <= FEW_LENGTHS && n <= FEW_FIGURES {
         in_room::<FEW_LENGTHS, FEW_FIGURES>(to, call, args, m, n, numbers)
     } else {
         in_room::<LENGTHS, FIGURES>(to, call, args, m, n, numbers)

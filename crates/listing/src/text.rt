@@ -74,6 +74,7 @@ fn listed(kind: u8, mode: u8, given: &[u8]) -> (Listed, Text)
     ensures lines { result.1.bytes ≡ windows_text kind mode given.now (lister_stop kind mode given.now) }
     ensures upper_bound { array_string_len result.1 ≤ 18 * most_windows }
 {
+    // Kept: C interface: list fills three tables beside one another.
     let mut starts = [0; MOST_WINDOWS];
     let mut ends = [0; MOST_WINDOWS];
     let mut offsets = [0; MOST_WINDOWS];
@@ -126,7 +127,7 @@ fn written(input: &[u8]) -> Text
 }
 
 // The text for an input, put at the front of a block; its length is answered.
-// Kept: promise of text: Writes speaks of a lent block and of a length.
+// Kept: promise of text: Writes speaks of a lent block and of how much of it is the text.
 pub fn text(input: &[u8], out: &mut [u8; MOST_TEXT]) -> usize
     ensures writes { Writes input.now out.old result out.new }
     ensures prefix_len { IsPrefixLen result out.new }
