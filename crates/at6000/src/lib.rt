@@ -1,5 +1,7 @@
 // The calls as C has them: each under its C name, by value, with the call's own promise; and three calls that update the chain where the
 // caller keeps it. Crate `at6000_c` exports them.
+// Kept: C interface: names, numbers for modes, kinds and answers, tables beside one another, and a call in place beside its call by value, as
+// include/at6000.h has them.
 #![tactic(auto)]
 
 ghost use Rattle.std.specs.Prelude.{◌≡◌};
@@ -27,8 +29,7 @@ use sheet::Sheet;
 pub fn at6000_new(count: u8, kinds: &[u8; 8], mem: &[u8]) -> Made
     ensures { New count kinds.now mem.now result }
 {
-    let ks = *kinds;
-    chain::new(count, ks, mem)
+    chain::new(count, *kinds, mem)
 }
 
 pub fn at6000_reset(c: Chain, mem: &mut [u8]) -> Made
@@ -97,8 +98,7 @@ pub fn at6000_write(
 ) -> Written
     ensures { Write kind mode control address.now starts.now ends.now cells.now out.old result out.new }
 {
-    let a = *address;
-    writer::write(kind, mode, control, a, starts, ends, cells, out)
+    writer::write(kind, mode, control, *address, starts, ends, cells, out)
 }
 
 pub fn at6000_list(
@@ -156,23 +156,23 @@ pub fn at6000_load_sheet(
 pub fn at6000_start_in(c: &mut Chain, mem: &[u8], mode: u8, check: u8) -> u8
     ensures { StartIn c.old mem.now mode check c.new result }
 {
-    let f = machine::start(*c, mem, mode, check);
-    *c = f.chain;
-    f.number
+    let Made { chain, number } = machine::start(*c, mem, mode, check);
+    *c = chain;
+    number
 }
 
 pub fn at6000_slice_in(c: &mut Chain, mem: &mut [u8], s: &[u8]) -> Answer
     ensures { SliceIn c.old mem.old s.now c.new result mem.new }
 {
-    let f = machine::slice(*c, mem, s);
-    *c = f.chain;
-    f.answer
+    let Fed { chain, answer } = machine::slice(*c, mem, s);
+    *c = chain;
+    answer
 }
 
 pub fn at6000_pick_up_in(c: &mut Chain, mem: &[u8], saved: &[u8]) -> u8
     ensures { PickUpIn c.old mem.now saved.now c.new result }
 {
-    let f = saved::pick_up(*c, mem, saved);
-    *c = f.chain;
-    f.number
+    let Made { chain, number } = saved::pick_up(*c, mem, saved);
+    *c = chain;
+    number
 }

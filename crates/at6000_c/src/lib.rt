@@ -1,4 +1,5 @@
 // The C interface: a static library with each call of `at6000` under its C name, and that call's own promise. Nothing else is here.
+// Kept: C interface: each export says again what its call in `at6000` says, since C sees the names of this crate alone.
 #![tactic(auto)]
 
 ghost use Rattle.std.specs.Prelude.{◌≡◌};
