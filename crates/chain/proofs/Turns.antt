@@ -114,6 +114,7 @@ unused_turn xs n i below passed = each (cases_lt i n)
     zero_there true false is h = sym h
     zero_there false true is h = refl
     zero_there false false is h = is
+
     each : (i < n) ⊎ (n ≤ i) → zeros (drop (n + (i - n)) xs) ≡ zeros (drop (n + (i + 1 - n)) xs)
     each (inl h) = ap (λ (k : ℕ). zeros (drop k xs)) (omega (arith, h))
     each (inr h) =

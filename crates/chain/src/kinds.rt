@@ -72,8 +72,7 @@ pub fn size_of(kind: u8) -> u16
 pub fn size_here(c: Chain) -> u16
     ensures { result ≡ size_here c }
 {
-    let ks = c.kinds;
-    size_of(at8(ks, c.place.device))
+    size_of(at8(c.kinds, c.place.device))
 }
 
 // Where the memory of a device begins. The bound is what makes an address safe to add up.

@@ -139,36 +139,37 @@ fn well_formed(c: Chain, unused: bool) -> bool
     requires { unused ≡ unused_zero c.registers c.count }
     ensures { result ≡ is_well_formed c c.registers c.place }
 {
-    let ks = c.kinds;
-    let rs = c.registers;
     let p = c.place;
-    let d = p.device;
     let h = is_held(p, c.count, unused);
-    by_row(p, h, at8(rs, d), size_of(at8(ks, d)))
+    by_row(
+        p,
+        h,
+        at8(c.registers, p.device),
+        size_of(at8(c.kinds, p.device)),
+    )
 }
 
 // Number 17. Where no run is open, the rest of the place is no part of the state and is not tested.
+#[tactic(auto, unfolding(crate::specs::State::is_ill_formed))]
 pub fn ill_formed(c: Chain) -> bool
     ensures { result ≡ is_ill_formed c }
 {
-    let n = c.count;
-    let ks = c.kinds;
-    let rs = c.registers;
-    let running = c.place.running;
-    if !unused_zero(ks, n) {
+    if !unused_zero(c.kinds, c.count) {
         return true;
     }
-    if !unused_zero(rs, n) {
+    if !unused_zero(c.registers, c.count) {
         return true;
     }
-    if running == CLOSED {
-        return false;
+    match c.place.running {
+        CLOSED => false,
+        OPENED => !well_formed(c, true),
+        _ => true,
     }
-    !((running == OPENED) & well_formed(c, true))
 }
 
 // What refuses a call that wants a run open: 1, then 17, then 4. One function for all calls, so that the test stands in the archive once.
 #[inline(never)]
+#[tactic(auto, using(crate::proofs::Tests::tests), unfolding(crate::specs::State::open_number))]
 pub fn open(c: Chain, len: usize) -> Result<(), Refusal>
     ensures { answered result ≡ open_number c len }
 {
@@ -198,6 +199,7 @@ pub fn sound(c: Chain, len: usize) -> Result<(), Refusal>
 }
 
 // And a call that feeds bytes.
+#[tactic(auto, unfolding(crate::specs::State::open_number, crate::specs::State::feed_number))]
 pub fn fed(c: Chain, len: usize) -> Result<(), Refusal>
     ensures { answered result ≡ feed_number c len }
 {

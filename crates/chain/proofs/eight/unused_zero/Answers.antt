@@ -1,4 +1,4 @@
-use Rattle.std.proofs.Common.{rules, ◌≡◌, ◌≤◌, ◌<◌, ◌+◌, ◌-◌, ℕ, length, arith}
+use Rattle.std.proofs.Common.{rules, ◌≡◌, ◌≤◌, ◌+◌, ◌-◌, ℕ, length, arith}
 use mathlib.Core.Path.{◌∙◌, sym, ap}
 use lib.ListN.{drop, get_or}
 use Rattle.chain.specs.State.{unused_zero, zeros}

@@ -1,9 +1,8 @@
-use Rattle.std.proofs.Common.{ℕ, ◌≡◌, nat_eq}
+use Rattle.std.proofs.Common.{ℕ, nat_eq}
 use mathlib.Core.Path.{◌∙◌, sym, ap}
 use Rattle.chain.specs.Paper.{done, no_run}
 use Rattle.chain.specs.Rules.{pick}
 use Rattle.chain.specs.Refusal.{number_of}
-use Rattle.chain.specs.State.{open_number}
 use Rattle.chain.proofs.Numbers.{state_of_open}
 use Rattle.chain.proofs.PassedUp.{not_no_run}
 use Rattle.chain.proofs.state.sound.Goals as goal
