@@ -16,9 +16,8 @@ use Rattle.eprom.specs.Counter.{counts, home_of, next_of}
 use Rattle.eprom.specs.Kept.{with_counter, fetcher_at, jumps, astray, onward, fetcher_at_end}
 use Rattle.eprom.specs.Fetch.{Fetching, fetching, took_of, fetch_all}
 use Rattle.eprom.specs.Calls.{lent}
-use Rattle.eprom.specs.Steps.{further_of, took_all, Free, settled, kept_through, kept_by, went_to, ended_to, Going, Block}
+use Rattle.eprom.specs.Steps.{further_of, took_all, Free, settled, kept_through, kept_by, went_to, ended_to, Reads, Going, Block}
 use Rattle.eprom.proofs.Counters.{next_further, further_next}
-use Rattle.eprom.proofs.ReadBytes.{Reads}
 use Rattle.eprom.proofs.Settled.{no_jump_right, astray-at}
 use Rattle.eprom.proofs.KeptBytes.{kept_by_lem}
 use Rattle.eprom.proofs.Turns.{fetch_over, took_strays, took-ends, took_goes, comes_there}

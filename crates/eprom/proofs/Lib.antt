@@ -9,7 +9,6 @@ pub mod NextByte
 pub mod Blocks
 pub mod BlockAnswers
 pub mod Walks
-pub mod Rests
 pub mod Keeps
 pub mod AsFed
 pub mod Parts

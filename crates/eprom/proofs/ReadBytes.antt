@@ -1,15 +1,10 @@
 -- The bytes that a counter comes by, one after another: upward as they stand in the EPROM, in mode 2 downward. Assumes nothing.
-use Rattle.std.proofs.Common.{◌≡◌, ℕ, zero, suc, ◌+◌, ◌-◌, ◌<◌, ◌≤◌, true, false, eqb, List, [], ◌∷◌, length, get_or, take, drop, refl, ap, ◌∙◌, arith, length-drop, length-take-le, get_or-drop, drop-cons, get_or-take}
+use Rattle.std.proofs.Common.{◌≡◌, ℕ, zero, suc, ◌+◌, ◌-◌, ◌<◌, ◌≤◌, true, false, eqb, List, [], ◌∷◌, length, get_or, take, drop, refl, ap, ◌∙◌, arith, length-drop, length-take, length-take-le, get_or-drop, drop-cons, get_or-take}
 use Rattle.chain.specs.Paper.{downward}
 use Rattle.chain.specs.Rules.{pick}
 use Rattle.chain.proofs.ByCases.{by_test}
 use Rattle.eprom.specs.Counter.{counts, last_count, next_of}
-use Rattle.eprom.specs.Steps.{down_from, part_of, Reach}
-
--- bs stand where the counter goes by, from k on
-abbrev pub Reads : ℕ → List ℕ → ℕ → List ℕ → Type 0
-Reads mode e k [] = Unit {0}
-Reads mode e k (b ∷ bs) = ((k < length e) × (b ≡ get_or e k 0)) × Reads mode e (next_of mode k) bs
+use Rattle.eprom.specs.Steps.{down_from, part_of, Stretch, Reads}
 
 -- ---- downward
 
@@ -59,16 +54,20 @@ up_reads mode e k (suc (suc n)) d h g =
 -- ---- either way
 
 module _ (mode : ℕ) (e : List ℕ) (k n : ℕ) where
-  pub part_reads : k ≤ last_count → Reach mode k (length e) n → Reads mode e k (part_of mode e k n)
+  pub part_reads : {many : ℕ} → k ≤ last_count → Stretch mode k (length e) many n → Reads mode e k (part_of mode e k n)
   unfolding part_of
   part_reads low r =
       by_test (eqb mode downward)
       (λ d. rw d (down_reads mode e k n d r.there low (r.down d).0))
       (λ d. rw d (up_reads mode e k n d (r.up d).0 (r.up d).1))
 
-  pub part_length : Reach mode k (length e) n → length (part_of mode e k n) ≡ n
+  pub part_length : {many : ℕ} → Stretch mode k (length e) many n → length (part_of mode e k n) ≡ n
   unfolding part_of
   part_length r = by_test (eqb mode downward) (λ d. rw d (down-length e k n)) (λ d. rw d (length-take-le n (drop k e) (omega (arith, length-drop k e, (r.up d).0))))
+
+  pub part_most : length (part_of mode e k n) ≤ n
+  unfolding part_of
+  part_most = by_test (eqb mode downward) (λ d. rw d (omega (arith, down-length e k n))) (λ d. rw d (omega (arith, length-take n (drop k e))))
 
   -- its second byte is the one after the counter's
   pub part_second : 2 ≤ n → get_or (part_of mode e k n) 1 0 ≡ pick (eqb mode downward) (get_or e (k - 1) 0) (get_or e (k + 1) 0)

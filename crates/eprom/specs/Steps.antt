@@ -5,9 +5,11 @@ use Rattle.chain.specs.declared.Place.{Place}
 use Rattle.chain.specs.Paper.{at_preamble, at_control, at_count, at_null, at_check, no_windows, opened, downward, most_devices, more, B0, B1}
 use Rattle.chain.specs.Rules.{pick, row_of}
 use Rattle.eprom.specs.declared.Fetcher.{Fetcher}
-use Rattle.eprom.specs.Counter.{fetches, counts, last_count, home_of}
+use Rattle.eprom.specs.declared.Fetched.{Fetched}
+use Rattle.eprom.specs.Counter.{fetches, counts, last_count, home_of, next_of}
 use Rattle.eprom.specs.Kept.{with_counter, fetcher_at, not_yet, first, kept_rows, external_of, jumps}
 use Rattle.eprom.specs.Fetch.{Fetching, took_of}
+use Rattle.eprom.specs.Calls.{fetched_of}
 
 -- the counter n bytes later
 unfoldable pub further_of : ℕ → ℕ → ℕ → ℕ
@@ -69,6 +71,11 @@ down_from e at (suc n) = slice_index e at ∷ down_from e (at - 1) n
 unfoldable pub part_of : ℕ → List ℕ → ℕ → ℕ → List ℕ
 part_of mode e at n = pick (mode == downward) (down_from e at n) (take n (drop at e))
 
+-- bs stand where the counter goes by, from k on
+abbrev pub Reads : ℕ → List ℕ → ℕ → List ℕ → Type 0
+Reads mode e k [] = Unit {0}
+Reads mode e k (b ∷ bs) = ((k < length e) × (b ≡ slice_index e k)) × Reads mode e (next_of mode k) bs
+
 -- a run that fetches
 pub record Going (c : Chain) (f : Fetcher) : Type 0 where
   pub running : c.place.running ≡ opened
@@ -85,13 +92,15 @@ pub record Block (c : Chain) (f : Fetcher) (bs : List ℕ) : Type 0 where
   pub some : 0 < length bs
   pub most : length bs ≤ counts
 
--- how many bytes are turned round at once in mode 2 where a jump may come
-abbrev pub at_once : ℕ
-at_once = 8
-
--- n bytes can be fetched before the counter wraps or the EPROM ends, in mode 2 no more than are turned round at once
-pub record Reach (mode at have n : ℕ) : Type 0 where
+-- n bytes can be fetched before the counter wraps or the EPROM ends, in mode 2 no more than there is room for
+pub record Stretch (mode at have many n : ℕ) : Type 0 where
   pub there : at < have
   pub few : n ≤ counts
   pub up : nat_eq mode downward ≡ false → (at + n ≤ have) × (at + n ≤ counts)
-  pub down : nat_eq mode downward ≡ true → (n ≤ at + 1) × (n ≤ at_once)
+  pub down : nat_eq mode downward ≡ true → (n ≤ at + 1) × (n ≤ many)
+
+-- the answer r and the memory m' of a fetch that has come to x, and takes no more bytes
+pub record Over (x : Fetching) (r : Fetched) (m' : List ℕ) : Type 0 where
+  pub ends : x.run.number ≡ more → ⊥
+  pub value : r ≡ fetched_of x
+  pub memory : m' ≡ x.run.memory

@@ -1,23 +1,22 @@
 // Booting from an EPROM: the bytes of a run fetched at an address counter and fed to the machine.
 #![tactic(auto)]
 
-mod block;
+mod board;
 mod counter;
-mod down;
 mod kept;
 mod walk;
 
 ghost use Rattle.std.specs.Prelude.{◌≡◌};
-ghost use Rattle.eprom.specs.Calls.{fetch_number, unfetched, FetcherNew, Fetch};
+ghost use Rattle.chain.specs.Refusal.{number_of, answered};
+ghost use Rattle.eprom.specs.Calls.{answers, fetch_number, unfetched, FetcherNew, Fetch};
 
-use crate::block::still_open;
+use crate::board::Board;
 use crate::counter::{LAST_COUNT, home, is_fetched};
-use crate::kept::fetcher_at;
-use crate::walk::walk;
 use chain::Chain;
 use chain::paper::*;
-use chain::state::state_number;
-use machine::Answer;
+use chain::refusal::Refusal;
+use chain::state::sound;
+use machine::{Answer, Fed};
 
 // What a stop keeps beside the saved place: the counter, the first device's control byte and external address, low byte first, zero until taken, and whether
 // its first null byte was taken, 0 for not yet.
@@ -39,49 +38,75 @@ pub struct Fetched {
     pub fetcher: Fetcher,
 }
 
+impl Fetched {
+    // What the machine answers, and a fetcher.
+    fn fed(r: Fed, f: Fetcher) -> Fetched
+        ensures { result ≡ record { chain = r.chain; answer = r.answer; fetcher = f } }
+    {
+        let Fed { chain, answer } = r;
+        Fetched {
+            chain,
+            answer,
+            fetcher: f,
+        }
+    }
+
+    // All as lent, with counts.
+    fn counted(c: Chain, f: Fetcher, why: Refusal, taken: u32, mismatches: u32) -> Fetched
+        ensures { result ≡ answers c (number_of why) taken mismatches f }
+    {
+        let answer = Answer {
+            number: why.number(),
+            taken,
+            mismatches,
+        };
+        Fetched {
+            chain: c,
+            answer,
+            fetcher: f,
+        }
+    }
+
+    // With the run's counts so far.
+    fn so_far(c: Chain, f: Fetcher, why: Refusal) -> Fetched
+        ensures { result ≡ answers c (number_of why) c.place.taken c.place.mismatches f }
+    {
+        Fetched::counted(c, f, why, c.place.taken, c.place.mismatches)
+    }
+}
+
 // A fetcher whose counter is where it starts in a mode, with nothing kept.
 pub fn fetcher_new(mode: u8) -> Fetcher
     ensures { FetcherNew mode result }
 {
-    fetcher_at(home(mode))
+    Fetcher::fresh(home(mode))
 }
 
 // What refuses a call before it looks at a byte.
-fn number(c: Chain, f: Fetcher, len: usize) -> u8
-    ensures { result ≡ fetch_number c f len }
+fn fetching(c: Chain, f: Fetcher, len: usize) -> Result<(), Refusal>
+    ensures { answered result ≡ fetch_number c f len }
 {
-    let n = state_number(c, len);
-    if n != DONE {
-        return n;
-    }
+    sound(c, len)?;
     if LAST_COUNT < f.counter {
-        return ILL_FORMED;
+        return Err(Refusal::IllFormed);
     }
     if c.place.running == CLOSED {
-        return NO_RUN;
+        return Err(Refusal::NoRun);
     }
-    if is_fetched(c.place.mode) {
-        return DONE;
+    if !is_fetched(c.place.mode) {
+        return Err(Refusal::BadMode);
     }
-    BAD_MODE
+    Ok(())
 }
 
-// All as lent; with 2 the run's counts so far.
-fn not_fetched(c: Chain, f: Fetcher, number: u8) -> Fetched
-    ensures { result ≡ unfetched c f number }
+// All as lent; where the mode is refused the run's counts so far.
+#[tactic(auto, unfolding(crate::specs::Calls::unfetched))]
+fn not_fetched(c: Chain, f: Fetcher, why: Refusal) -> Fetched
+    ensures { result ≡ unfetched c f (number_of why) }
 {
-    if number == BAD_MODE {
-        return still_open(c, f, BAD_MODE);
-    }
-    let answer = Answer {
-        number,
-        taken: 0,
-        mismatches: 0,
-    };
-    Fetched {
-        chain: c,
-        answer,
-        fetcher: f,
+    match why {
+        Refusal::BadMode => Fetched::so_far(c, f, why),
+        _ => Fetched::counted(c, f, why, 0, 0),
     }
 }
 
@@ -89,9 +114,13 @@ fn not_fetched(c: Chain, f: Fetcher, number: u8) -> Fetched
 pub fn fetch(c: Chain, f: Fetcher, mem: &mut [u8], eprom: &[u8], n: usize) -> Fetched
     ensures { Fetch c f mem.old eprom.now n result mem.new }
 {
-    let k = number(c, f, mem.len());
-    if k == DONE {
-        return walk(c, f, mem, eprom, n);
+    if let Err(why) = fetching(c, f, mem.len()) {
+        return not_fetched(c, f, why);
     }
-    not_fetched(c, f, k)
+    let mut board = Board {
+        chain: c,
+        fetcher: f,
+        left: n,
+    };
+    board.walk(mem, eprom)
 }

@@ -1,82 +1,125 @@
-// Bytes fetched block by block, as far as the run, the counter and the EPROM go.
-ghost use Rattle.std.specs.Prelude.{◌≡◌, ◌<◌, ◌≤◌, ◌&&◌, length, ◌==◌};
+// Bytes fetched block by block, as far as the run, the counter and the EPROM go. In mode 2 they stand the other way round in the EPROM, and are turned round in a
+// room before they are fed.
+ghost use Rattle.std.specs.Prelude.{◌≡◌, ◌+◌, ◌<◌, ◌≤◌, ◌&&◌, length, ◌==◌, MatchResult};
 ghost use Rattle.chain.specs.Paper.{downward};
-ghost use Rattle.eprom.specs.Counter.{last_count};
 ghost use Rattle.eprom.specs.Calls.{lent, fetched_of};
 ghost use Rattle.eprom.specs.Fetch.{fetch_all};
-ghost use Rattle.eprom.specs.Steps.{Going, Block, Reach, took_all, settled, part_of};
+ghost use Rattle.eprom.specs.Steps.{Block, Stretch, Reads, Over, settled, down_from, part_of};
 
-use crate::block::{block, still_open};
+use crate::Fetched;
+use crate::board::Board;
 use crate::counter::COUNTS;
-use crate::down::{FEW, down, rest};
-use crate::kept::{free, is_settled};
-use crate::{Fetched, Fetcher};
-use cells::least;
-use chain::paper::*;
-use chain::{Chain, Place};
+use chain::refusal::Refusal;
 
-// The n bytes from the counter on, as one block.
-fn part(c: Chain, f: Fetcher, mem: &mut [u8], e: &[u8], n: usize) -> Fetched
-    requires { Block c f (part_of c.place.mode e.now f.counter n) × Reach c.place.mode f.counter (length e.now) n }
-    ensures value { result ≡ fetched_of (took_all (lent c mem.old f) (part_of c.place.mode e.now f.counter n)) }
-    ensures mem_after { mem.new ≡ (took_all (lent c mem.old f) (part_of c.place.mode e.now f.counter n)).run.memory }
+// How many bytes are turned round at once, while a jump may come.
+const FEW: usize = 8;
+
+// And when none is left: the room is on the stack.
+const TURNED: usize = 768;
+
+// The n bytes from an address on downward, turned round in a room.
+fn turn<'a>(room: &'a mut [u8], e: &[u8], at: usize, n: usize) -> &'a [u8]
+    requires { (at < length e.now) × (n ≤ at + 1) × (n ≤ length room.old) }
+    ensures { result.now ≡ down_from e.now at n }
 {
-    let at = f.counter as usize;
-    if c.place.mode == DOWNWARD {
-        return down(c, f, mem, e, at, n);
+    for i in 0..n {
+        room[i] = e[at - i];
     }
-    let to = at + n;
-    block(c, f, mem, &e[at..to])
+    &room[..n]
 }
 
-// How many bytes can be fetched from a counter on before it wraps or the EPROM ends, in mode 2 no more than a few.
-fn reach(mode: u8, counter: u32, have: usize) -> usize
-    requires { (counter < have) × (counter ≤ last_count) }
-    ensures { (0 < result) × Reach mode counter have result }
-{
-    let at = counter as usize;
-    if mode == DOWNWARD {
-        return least(at + 1, FEW);
+impl Board {
+    // The n bytes from the counter on, as it counts.
+    #[tactic(auto, unfolding(crate::specs::Steps::part_of))]
+    fn part<'a>(&self, room: &'a mut [u8], e: &'a [u8], n: usize) -> &'a [u8]
+        requires { Stretch self.now.chain.place.mode self.now.fetcher.counter (length e.now) (length room.old) n }
+        ensures { result.now ≡ part_of self.now.chain.place.mode e.now self.now.fetcher.counter n }
+    {
+        let at = self.fetcher.counter as usize;
+        if self.counts_down() {
+            return turn(room, e, at, n);
+        }
+        let to = at + n;
+        &e[at..to]
     }
-    least(have, COUNTS as usize) - at
-}
 
-// In mode 2, with no jump left and nothing more to keep.
-fn is_rest(p: Place, f: Fetcher) -> bool
-    ensures { result ≡ (p.mode == downward && settled p f) }
-{
-    if p.mode != DOWNWARD {
-        return false;
+    // How many bytes can be fetched before the counter wraps or the EPROM ends, in mode 2 as many as there is room for.
+    fn reach(&self, have: usize, many: usize) -> usize
+        requires there { self.now.fetcher.counter < have }
+        requires room { 0 < many }
+        ensures some { 0 < result }
+        ensures reach { Stretch self.now.chain.place.mode self.now.fetcher.counter have many result }
+    {
+        let at = self.fetcher.counter as usize;
+        if self.counts_down() {
+            return many.min(at + 1);
+        }
+        have.min(COUNTS as usize) - at
     }
-    is_settled(p, f)
-}
 
-// Fetches and feeds n bytes of an open run, or as many as it takes.
-pub fn walk(c: Chain, f: Fetcher, mem: &mut [u8], e: &[u8], n: usize) -> Fetched
-    requires { Going c f }
-    ensures value { result ≡ fetched_of (fetch_all e.now n (lent c mem.old f)) }
-    ensures mem_after { mem.new ≡ (fetch_all e.now n (lent c mem.old f)).run.memory }
-{
-    let mode = c.place.mode;
-    let have = e.len();
-    let mut d = c;
-    let mut g = f;
-    let mut left = n;
-    while 0 < left {
-        if have <= g.counter as usize {
-            return still_open(d, g, PAST_EPROM);
-        }
-        if is_rest(d.place, g) {
-            return rest(d, g, mem, e, left);
-        }
-        let k = free(d.place, g, e, least(left, reach(mode, g.counter, have)));
-        let r = part(d, g, mem, e, k);
-        if r.answer.number != MORE {
-            return r;
-        }
-        d = r.chain;
-        g = r.fetcher;
-        left -= k;
+    // The next bytes that are taken as one block.
+    fn next<'a>(&self, room: &'a mut [u8], e: &'a [u8]) -> &'a [u8]
+        requires left { 0 < self.now.left }
+        requires there { self.now.fetcher.counter < length e.now }
+        requires room { 0 < length room.old }
+        ensures most { length result.now ≤ self.now.left }
+        ensures block { Block self.now.chain self.now.fetcher result.now }
+        ensures reads { Reads self.now.chain.place.mode e.now self.now.fetcher.counter result.now }
+    {
+        let n = self.left.min(self.reach(e.len(), room.len()));
+        let k = self.free(e, n);
+        self.part(room, e, k)
     }
-    still_open(d, g, MORE)
+
+    // Takes one block; or what the run answers where it is over with it, or past the EPROM.
+    fn step(&mut self, mem: &mut [u8], room: &mut [u8], e: &[u8]) -> Result<(), Fetched>
+        requires left { 0 < self.old.left }
+        requires room { 0 < length room.old }
+        ensures { MatchResult result (λ _. (self.new.left < self.old.left) × (fetch_all e.now self.old.left (lent self.old.chain mem.old self.old.fetcher) ≡ fetch_all e.now self.new.left (lent self.new.chain mem.new self.new.fetcher))) (λ r. Over (fetch_all e.now self.old.left (lent self.old.chain mem.old self.old.fetcher)) r mem.new) }
+    {
+        if e.len() <= self.fetcher.counter as usize {
+            return Err(self.stays(Refusal::PastEprom));
+        }
+        let t = self.next(room, e);
+        self.left -= t.len();
+        self.block(mem, t)
+    }
+
+    // In mode 2, with no jump left and nothing more to keep.
+    fn is_rest(&self) -> bool
+        ensures { result ≡ (self.now.chain.place.mode == downward && settled self.now.chain.place self.now.fetcher) }
+    {
+        self.counts_down() && self.is_settled()
+    }
+
+    // Fetches and feeds the bytes left, or as many as the run takes, in a room for many, which is filled with zeros once.
+    fn rest(&mut self, mem: &mut [u8], e: &[u8]) -> Fetched
+        ensures value { result ≡ fetched_of (fetch_all e.now self.old.left (lent self.old.chain mem.old self.old.fetcher)) }
+        ensures mem_after { mem.new ≡ (fetch_all e.now self.old.left (lent self.old.chain mem.old self.old.fetcher)).run.memory }
+    {
+        let mut room = [0u8; TURNED];
+        while 0 < self.left {
+            if let Err(r) = self.step(mem, &mut room, e) {
+                return r;
+            }
+        }
+        self.stays(Refusal::UsedUp)
+    }
+
+    // Fetches and feeds the bytes left, or as many as the run takes.
+    pub fn walk(&mut self, mem: &mut [u8], e: &[u8]) -> Fetched
+        ensures value { result ≡ fetched_of (fetch_all e.now self.old.left (lent self.old.chain mem.old self.old.fetcher)) }
+        ensures mem_after { mem.new ≡ (fetch_all e.now self.old.left (lent self.old.chain mem.old self.old.fetcher)).run.memory }
+    {
+        let mut room = [0u8; FEW];
+        while 0 < self.left && !self.is_rest() {
+            if let Err(r) = self.step(mem, &mut room, e) {
+                return r;
+            }
+        }
+        if 0 < self.left {
+            return self.rest(mem, e);
+        }
+        self.stays(Refusal::UsedUp)
+    }
 }

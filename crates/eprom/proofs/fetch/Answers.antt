@@ -1,22 +1,19 @@
 use Rattle.std.proofs.Common.{sym, ◌∙◌}
-use Rattle.chain.proofs.Tests.{tests}
+use Rattle.chain.proofs.PassedUp.{not_done}
 use Rattle.eprom.specs.Calls.{fetch_of, fetch_memory}
-use Rattle.eprom.proofs.Numbers.{fetch_going}
+use Rattle.eprom.proofs.Numbers.{fetch_going, fetch_done}
 use Rattle.eprom.proofs.fetch.Goals as goal
 
-pub walk-requires : goal.walk-requires
-walk-requires c =
-    let a = c.args in
-    fetch_going a.c a.f _ (sym c.number-k.ensures ∙ c.if-k-eq-DONE.true)
-
-pub returns-then-k-eq-DONE : goal.returns-then-k-eq-DONE
+pub returns-in-Err : goal.returns-in-Err
 unfolding fetch_of fetch_memory
-returns-then-k-eq-DONE c =
-    let n = c.number-k.ensures in
-    record { answer = c.walk.ensures.value ∙ simp (← n) (search tests); memory = c.walk.ensures.mem_after ∙ simp (← n) (search tests) }
+returns-in-Err c =
+    let n = c.in-Err.ensures {u = tt} in
+    record { answer = c.not_fetched.ensures ∙ simp (← n, not_done c.in-Err.why); memory = simp (← n, not_done c.in-Err.why) }
+
+pub invariant_of-board : goal.invariant_of-board
+invariant_of-board c = record { going = fetch_going c.args.c c.args.f _ (sym (c.in_default.ensures {u = tt})) }
 
 pub returns : goal.returns
-unfolding fetch_of fetch_memory
 returns c =
-    let n = c.number-k.ensures in
-    record { answer = c.not_fetched.ensures ∙ simp (← n) (search tests); memory = simp (← n) (search tests) }
+    let a = c.args in
+    fetch_done a.c a.f a.mem.now a.eprom.now a.n _ _ (c.in_default.ensures {u = tt}) c.walk.ensures.value c.walk.ensures.mem_after
