@@ -1,5 +1,5 @@
 -- The bytes that a counter comes by, one after another: upward as they stand in the EPROM, in mode 2 downward. Assumes nothing.
-use Rattle.std.proofs.Common.{◌≡◌, ℕ, zero, suc, ◌+◌, ◌-◌, ◌<◌, ◌≤◌, true, false, eqb, List, [], ◌∷◌, length, get_or, take, drop, refl, ap, ◌∙◌, arith, length-drop, length-take, length-take-le, get_or-drop, drop-cons, get_or-take}
+use Rattle.std.proofs.Common.{◌≡◌, ℕ, zero, suc, ◌+◌, ◌-◌, ◌<◌, ◌≤◌, true, false, eqb, List, length, get_or, take, drop, refl, ap, ◌∙◌, arith, length-drop, length-take, length-take-le, get_or-drop, drop-cons, get_or-take}
 use Rattle.chain.specs.Paper.{downward}
 use Rattle.chain.specs.Rules.{pick}
 use Rattle.chain.proofs.ByCases.{by_test}

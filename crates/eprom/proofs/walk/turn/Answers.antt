@@ -1,4 +1,4 @@
-use Rattle.std.proofs.Common.{ℕ, ◌+◌, List, drop, take, set, sym, refl, ap, ◌∙◌, inr, arith, rules}
+use Rattle.std.proofs.Common.{ℕ, ◌+◌, List, drop, take, set, sym, ap, ◌∙◌, inr, arith, rules}
 use lib.Seq.{sets}
 use Rattle.cells.proofs.Count.{copy_turn, copy_end}
 use Rattle.cells.proofs.Over.{front_is}
