@@ -1,7 +1,7 @@
 -- The two calls' answers, by what was found: the state's number first, then the call's own rules. Assumes nothing.
 use Prim.Native.Nat.{ℕ}
 use mathlib.Core.Bool.{Bool, true, false, not, ◌&&◌}
-use mathlib.Core.Path.{◌≡◌, sym, ◌∙◌}
+use mathlib.Core.Path.{◌≡◌, sym, ap, ◌∙◌}
 use mathlib.Core.List.{List, [], ◌∷◌}
 use native.Mathlib.Omega.{arith}
 use borrow.Author.Tests.{eq-eqb, ne_eqb}
@@ -11,9 +11,12 @@ use Rattle.chain.specs.declared.Chain.{Chain}
 use Rattle.chain.specs.declared.Place.{Place}
 use Rattle.chain.specs.Paper.{done, opened, closed, run_open, too_short, ill_formed}
 use Rattle.chain.specs.Rules.{Rule, ◌gives◌, first_of, all_of}
-use Rattle.chain.specs.State.{is_well_formed, state_number, open_number}
+use Rattle.chain.specs.State.{is_bad_chain, is_ill_formed, is_well_formed, state_number, open_number}
 use Rattle.chain.specs.Output.{over, Writes}
-use Rattle.chain.proofs.Numbers.{state_gives, state_passes, open_gives, open_passes}
+use Rattle.chain.proofs.ByCases.{by_test}
+use Rattle.chain.proofs.Sound.{placed-taken}
+use Rattle.saved.specs.Reads.{marked}
+use Rattle.chain.proofs.Numbers.{state_none, state_gives, state_passes, open_gives, open_passes}
 use Rattle.saved.specs.Layout.{form1, rows, held_in, registers_in, place_in, marks, saved_length, well_saved_in, well_saved}
 use Rattle.saved.specs.Calls.{save_number, pick_up_number, picked_up, pick_up_of}
 
@@ -60,13 +63,35 @@ module _ (c : Chain) (len : ℕ) (s : List ℕ) where
   unfolding pick_up_of
   pick-up-on e = rw e
 
-  -- what the code finds out piece by piece
-  pub found : (g : List ℕ) (p : Place) (a b : Bool) → length s ≡ saved_length → g ≡ registers_in form1 s → p ≡ place_in form1 s
-      → a ≡ all_of (marks form1.number rows (held_in form1 s)) → b ≡ is_well_formed c g p → well_saved c s ≡ (a && b)
+  -- the marks are not those of the form
+  pub unmarked : marked s ≡ false → well_saved c s ≡ false
   unfolding well_saved_in
-  found g p a b l e f i j =
-      let w : is_well_formed c (registers_in form1 s) (place_in form1 s) ≡ b = (λ k. is_well_formed c (sym e k) (sym f k)) ∙ sym j in
-      λ k. eq-eqb (length s) saved_length l k && sym i k && w k
+  unmarked e = ap (λ (b : Bool). b && is_well_formed c (registers_in form1 s) (place_in form1 s)) e
+
+  -- they are: what the bytes hold decides
+  pub found : (g : List ℕ) (p : Place) → marked s ≡ true → g ≡ registers_in form1 s → p ≡ place_in form1 s → well_saved c s ≡ is_well_formed c g p
+  unfolding well_saved_in
+  found g p m e f = (λ k. m k && is_well_formed c (sym e k) (sym f k))
+
+  module _ (h : state_number c len ≡ done) where
+    -- the place that is held is open
+    running_in : {p : Place} → p ≡ place_in form1 s → p.running ≡ opened
+    unfolding held_in
+    running_in f = ap (λ (p : Place). p.running) f
+
+    abbrev held : List ℕ → Place → Chain
+    held g p = record { count = c.count; kinds = c.kinds; registers = g; place = p }
+
+    -- a chain with what is held is taken exactly where that is well saved, and else it is ill formed
+    pub taken_held : (g : List ℕ) (p : Place) → marked s ≡ true → g ≡ registers_in form1 s → p ≡ place_in form1 s
+        → eqb (state_number (held g p) len) done ≡ well_saved c s
+    taken_held g p m e f = placed-taken c len g p h (running_in f) ∙ sym (found g p m e f)
+
+    pub refused_held : (g : List ℕ) (p : Place) → (state_number (held g p) len ≡ done → ⊥) → state_number (held g p) len ≡ ill_formed
+    unfolding state_number
+    refused_held g p not_taken =
+        let fits : is_bad_chain c.count c.kinds len ≡ false = (state_none c len h).0 in
+        by_test (is_ill_formed (held g p)) (λ t. rw (fits, t)) (λ f. absurd (not_taken (rw (fits, f))))
 
   -- with no run open the saved place decides
   module _ (h : state_number c len ≡ done) (shut : c.place.running ≡ closed) where

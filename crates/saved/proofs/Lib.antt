@@ -1,5 +1,6 @@
 pub mod Packing
 pub mod Regroup
+pub mod Words
 pub mod Pieces
 pub mod Ranged
 pub mod Formed

@@ -5,7 +5,7 @@ use mathlib.Core.Logic.{◌⊎◌, inl, inr}
 use mathlib.Core.Path.{◌≡◌, refl, sym, ap, subst, ◌∙◌}
 use mathlib.Core.List.{List, [], ◌∷◌, ◌++◌}
 use native.Mathlib.Nat.{zero-add}
-use borrow.Author.Tests.{eqb-true, le-ltb, not-false}
+use borrow.Author.Tests.{eq-eqb, eqb-true, le-ltb, not-false}
 use lib.ListN.{length, get_or, take, drop}
 use lib.Seq.{take_at}
 use lib.Dec.{eqb, lit<}
@@ -121,7 +121,8 @@ saved_back c d m n out out' w r range save h count kinds len ill shut up =
     let registers = registers-back g p f range.eight in
     let place = place_back g p f well.0 in
     let ok : well_saved d s ≡ true =
-    found d (length n) s g p true true (length_saved g p) registers place (marks-back g p f) (sym (same-chain c d g p count kinds ∙ well.1))
+    found d (length n) s g p (λ k. eq-eqb (length s) saved_length (length_saved g p) k && sym (marks-back g p f) k) registers place
+    ∙ same-chain c d g p count kinds ∙ well.1
     in
     up.made
     ∙ ap (pick_up_of d (length n)) same

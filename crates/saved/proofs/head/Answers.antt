@@ -6,4 +6,6 @@ use Rattle.saved.proofs.Packing.{ored-packed}
 use Rattle.saved.proofs.head.Goals as goal
 
 pub returns : goal.returns
-returns c = simp (or_zero_l, or_zero_r) at (ored-packed 32 (widths head_rows) (values c.args.form head_rows [] c.args.p) c.requires (lit≤ tt))
+returns c =
+    rw (c.from.ensures, c.from-2.ensures, c.from-3.ensures, c.from-4.ensures, c.from-5.ensures)
+    (simp (or_zero_l, or_zero_r) at (ored-packed 32 (widths head_rows) (values 1 head_rows [] c.args.p) c.requires (lit≤ tt)))
