@@ -4,20 +4,20 @@ use mathlib.Core.Bool.{Bool, true, false, not, ◌&&◌}
 use mathlib.Core.Path.{◌≡◌, sym, ap, ◌∙◌}
 use mathlib.Core.List.{List, [], ◌∷◌}
 use native.Mathlib.Omega.{arith}
-use borrow.Author.Tests.{eq-eqb, ne_eqb}
+use borrow.Author.Tests.{ne_eqb}
 use lib.ListN.{length}
 use lib.Dec.{eqb, ltb}
 use Rattle.chain.specs.declared.Chain.{Chain}
 use Rattle.chain.specs.declared.Place.{Place}
 use Rattle.chain.specs.Paper.{done, opened, closed, run_open, too_short, ill_formed}
-use Rattle.chain.specs.Rules.{Rule, ◌gives◌, first_of, all_of}
+use Rattle.chain.specs.Rules.{Rule, ◌gives◌, first_of}
 use Rattle.chain.specs.State.{is_bad_chain, is_ill_formed, is_well_formed, state_number, open_number}
 use Rattle.chain.specs.Output.{over, Writes}
 use Rattle.chain.proofs.ByCases.{by_test}
 use Rattle.chain.proofs.Sound.{placed-taken}
 use Rattle.saved.specs.Reads.{marked}
 use Rattle.chain.proofs.Numbers.{state_none, state_gives, state_passes, open_gives, open_passes}
-use Rattle.saved.specs.Layout.{form1, rows, held_in, registers_in, place_in, marks, saved_length, well_saved_in, well_saved}
+use Rattle.saved.specs.Layout.{form1, held_in, registers_in, place_in, saved_length, well_saved_in, well_saved}
 use Rattle.saved.specs.Calls.{save_number, pick_up_number, picked_up, pick_up_of}
 
 -- ---- save

@@ -81,19 +81,10 @@ masked_fields (w ∷ u ∷ ws) n = ap₂ (λ (x : ℕ) (l : List ℕ). x ∷ l) 
 pub packed-one : (w v : ℕ) → packed (w ∷ []) (v ∷ []) ≡ v
 packed-one w v = add-zero (v * 1) ∙ mul-one v
 
--- a number cut at the widths us
-pub masked-one : (w : ℕ) (us : List ℕ) (n : ℕ) → masked us n ≡ recut (w ∷ []) us (n ∷ [])
-masked-one w us n = masked_fields us n ∙ ap (fields_of us) (sym (packed-one w n))
-
 -- one field for all of a number
 pub one_field : (w : ℕ) (ws : List ℕ) {n : ℕ} → n < 2 ^ total ws → total ws ≡ w → n ∷ [] ≡ fields_of (w ∷ []) n
 one_field w ws {n} l e =
     ap (λ (x : ℕ). x ∷ []) (sym (mod-eq_of_lt (subst (λ (k : ℕ). n < 2 ^ k) e l)) ∙ ap (λ (x : ℕ). x % 2 ^ w) (sym (div-one n)))
-
--- bytes put together
-pub ored-one : (W n : ℕ) (vs : List ℕ) → Fit (bytes n) vs → total (bytes n) ≡ W → ored W (bytes n) vs ∷ [] ≡ recut (bytes n) (W ∷ []) vs
-ored-one W n vs f e =
-    ap (λ (x : ℕ). x ∷ []) (ored-packed W (bytes n) vs f (le_of_eq e)) ∙ one_field W (bytes n) (packed_lt (bytes n) vs f) e
 
 -- the fields of a number that was one field
 pub fields_of-one : (w : ℕ) (ws : List ℕ) (n : ℕ) {x : ℕ} → total ws ≡ w → x ∷ [] ≡ fields_of (w ∷ []) n → masked ws x ≡ fields_of ws n

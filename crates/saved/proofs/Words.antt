@@ -1,12 +1,11 @@
 -- Numbers of two and four bytes as the library's `to_be_bytes` and `from_be_bytes` have them, and as fields. Assumes nothing.
-use Prim.Native.Nat.{ℕ, ◌+◌, ◌*◌, ◌/◌, ◌%◌, ◌^◌, ◌<◌}
+use Prim.Native.Nat.{ℕ, ◌/◌, ◌%◌, ◌^◌, ◌<◌}
 use mathlib.Core.Path.{◌≡◌, refl, sym, ap, ◌∙◌}
 use mathlib.Core.List.{List, [], ◌∷◌}
 use native.Mathlib.Nat.{div-one}
 use native.Mathlib.Omega.{arith}
-use lib.ListN.{length, get_or}
 use Rattle.std.specs.Int.{w16, w32, to_be_bytes, from_be_bytes}
-use Rattle.saved.specs.Fields.{total, packed, Fit, fields_of, recut, bytes}
+use Rattle.saved.specs.Fields.{packed, fields_of, recut, bytes}
 use Rattle.saved.proofs.Packing.{packed-one, packed_lt, one_field}
 use Rattle.saved.proofs.Regroup.{elems}
 

@@ -54,8 +54,8 @@ impl Saved {
         let [m0, m1, m2, m3] = p.mismatches.to_be_bytes();
         let [r0, r1, r2, r3, r4, r5, r6, r7] = self.registers;
         [
-            h0, h1, h2, h3, s0, s1, e0, e1, n0, n1, t0, t1, t2, t3, m0, m1, m2, m3, r0, r1, r2,
-            r3, r4, r5, r6, r7, p.control,
+            h0, h1, h2, h3, s0, s1, e0, e1, n0, n1, t0, t1, t2, t3, m0, m1, m2, m3, r0, r1, r2, r3,
+            r4, r5, r6, r7, p.control,
         ]
     }
 }
@@ -67,17 +67,12 @@ impl TryFrom<&[u8]> for Saved {
     ghost try_from_gives = { λ s r. Reads s.now r };
 
     fn try_from(s: &[u8]) -> Result<Saved, Refusal> {
-        let bytes: &[u8; SAVED_LENGTH] = s.as_array().ok_or(Refusal::IllFormed)?;
-        let [
-            h0, h1, h2, h3, s0, s1, e0, e1, n0, n1, t0, t1, t2, t3, m0, m1, m2, m3, r0, r1, r2, r3, r4, r5, r6, r7,
-            control,
-        ] = *bytes;
-        let head = u32::from_be_bytes([h0, h1, h2, h3]);
+        let s: &[u8; SAVED_LENGTH] = s.as_array().ok_or(Refusal::IllFormed)?;
+        let head = u32::from_be_bytes([s[0], s[1], s[2], s[3]]);
         let marked = (head >> 28 == SAVED_FORM) & ((head >> 16) & 1 == 0) & (head & 255 == 0);
         if !marked {
             return Err(Refusal::IllFormed);
         }
-        let registers = [r0, r1, r2, r3, r4, r5, r6, r7];
         let place = Place {
             running: OPENED,
             mode: ((head >> 25) & 7) as u8,
@@ -85,13 +80,14 @@ impl TryFrom<&[u8]> for Saved {
             device: ((head >> 21) & 7) as u8,
             awaited: ((head >> 17) & 15) as u8,
             left: ((head >> 8) & 255) as u8,
-            control,
-            start: u16::from_be_bytes([s0, s1]),
-            end: u16::from_be_bytes([e0, e1]),
-            next: u16::from_be_bytes([n0, n1]),
-            taken: u32::from_be_bytes([t0, t1, t2, t3]),
-            mismatches: u32::from_be_bytes([m0, m1, m2, m3]),
+            control: s[26],
+            start: u16::from_be_bytes([s[4], s[5]]),
+            end: u16::from_be_bytes([s[6], s[7]]),
+            next: u16::from_be_bytes([s[8], s[9]]),
+            taken: u32::from_be_bytes([s[10], s[11], s[12], s[13]]),
+            mismatches: u32::from_be_bytes([s[14], s[15], s[16], s[17]]),
         };
+        let registers = [s[18], s[19], s[20], s[21], s[22], s[23], s[24], s[25]];
         Ok(Saved { registers, place })
     }
 }

@@ -1,12 +1,10 @@
-use Rattle.std.proofs.Common.{◌≡◌, ◌∙◌, sym, ap, refl, rules, Err, false, true, arith}
+use Rattle.std.proofs.Common.{◌≡◌, ◌∙◌, sym, ap, rules, Err}
 use borrow.Author.Tests.{eq-eqb, ne_eqb, eqb-false}
 use Rattle.chain.specs.declared.Chain.{Chain}
-use Rattle.chain.specs.Paper.{done, ill_formed}
+use Rattle.chain.specs.Paper.{done}
 use Rattle.chain.specs.Refusal.{number_of}
 use Rattle.chain.specs.State.{state_number}
 use Rattle.chain.proofs.PassedUp.{not_done}
-use Rattle.saved.specs.Layout.{well_saved}
-use Rattle.saved.specs.Calls.{pick_up_number}
 use Rattle.saved.proofs.Answers.{pick-up-refused, pick-up-asked, unmarked, taken_held, refused_held}
 use Rattle.saved.proofs.picked_up.Goals as goal
 

@@ -1,4 +1,4 @@
-use Rattle.std.proofs.Common.{◌≡◌, ◌∙◌, sym, ap, refl, rules, length, ℕ, List, ◌<◌, ◌^◌, get_or, Fits, w16, w32}
+use Rattle.std.proofs.Common.{◌≡◌, ◌∙◌, sym, ap, refl, rules, length, ℕ, List, Fits, w16, w32}
 use borrow.Author.Tests.{eq-eqb}
 use Rattle.std.specs.Int.{from_be_bytes}
 use Rattle.saved.specs.Layout.{rows, place_of, registers_of}
@@ -9,7 +9,7 @@ use Rattle.saved.proofs.SavedTryFromRefSliceU8.try_from.Goals as goal
 pub returns-then-not-marked : goal.returns-then-not-marked
 returns-then-not-marked c =
     let s = c.args.s.now in
-    let e : c.in_ok-bytes.bytes.now ≡ s = search rules in
+    let e : c.in_ok-s.s.now ≡ s = search rules in
     let l : length s ≡ 27 = search rules in
     let h = c.from_be_bytes-head.result in
     let f : Fits w32 h = search rules in
@@ -19,7 +19,7 @@ returns-then-not-marked c =
 pub returns : goal.returns
 returns c =
     let s = c.args.s.now in
-    let e : c.in_ok-bytes.bytes.now ≡ s = search rules in
+    let e : c.in_ok-s.s.now ≡ s = search rules in
     let l : length s ≡ 27 = search rules in
     let h = c.from_be_bytes-head.result in
     let f : Fits w32 h = search rules in
