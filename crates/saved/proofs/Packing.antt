@@ -2,11 +2,11 @@
 use mathlib.Core.Path.{◌≡◌, refl, sym, ap, ap₂, ◌∙◌, subst}
 use mathlib.Core.List.{List, [], ◌∷◌}
 use Prim.Native.Nat.{ℕ, ◌+◌, ◌-◌, ◌*◌, ◌/◌, ◌%◌, ◌^◌, ◌<◌, ◌≤◌}
-use native.Mathlib.Nat.{le_trans, le_of_eq, mod-lt, mod-one, mod-eq_of_lt, add-zero, mul-one, le-add_left, div-one}
+use native.Mathlib.Nat.{le_trans, mod-lt, mod-one, mod-eq_of_lt, add-zero, mul-one, le-add_left, div-one}
 use lib.Arith.{digits_lt}
 use lib.Pow.{pow_pos, pow-add, mod-pow-add, mod-mod-pow, field, high, low, shl_exact}
 use lib.Bits.{bit_and, bit_or, and_mask, or_shifted}
-use Rattle.saved.specs.Fields.{total, packed, Fit, fields_of, recut, bytes}
+use Rattle.saved.specs.Fields.{total, packed, Fit, fields_of}
 
 -- ---- the definitions
 
