@@ -7,8 +7,10 @@ use native.Mathlib.Omega.{arith}
 use lib.Dec.{ltb}
 use lib.ListN.{length}
 use Rattle.chain.specs.declared.Chain.{Chain}
-use Rattle.chain.specs.declared.Written.{Written}
+use Rattle.std.specs.Prelude.{Result, Ok}
+use Rattle.chain.specs.declared.refusal.Refusal.{Refusal}
 use Rattle.chain.specs.Paper.{done, too_short}
+use Rattle.chain.specs.Refusal.{answered, length_in}
 use Rattle.chain.specs.Rules.{◌gives◌}
 use Rattle.chain.specs.State.{open_number}
 use Rattle.chain.proofs.Numbers.{open_gives, open_passes}
@@ -28,9 +30,10 @@ module _ (c : Chain) (m out : List ℕ) where
       open_gives c (length m) ((ltb (length out) (length (closing_bytes c m)) gives too_short) ∷ []) done (λ q. h (e ∙ q)) ∙ sym e in
       record { answer = rw (g, ne_eqb n done h); output = rw (g, ne_eqb n done h) }
 
-  pub meets_put : (r : Written) (out' : List ℕ) → open_number c (length m) ≡ done → Put (closing_bytes c m) out r out' → Closing c m out r out'
+  pub meets_put : (r : Result ℕ Refusal) (out' : List ℕ) → open_number c (length m) ≡ done → Put (closing_bytes c m) out r out'
+      → Closing c m out (record { number = answered r; length = length_in r }) out'
   meets_put r out' h p = rw (number_open c m (length out) h) p
 
 -- past the last awaited byte nothing is put
-pub put-none : (bs out : List ℕ) → bs ≡ [] → Put bs out (record { number = done; length = 0 }) out
+pub put-none : (bs out : List ℕ) → bs ≡ [] → Put bs out (Ok 0) out
 put-none bs out e = rw e (record { answer = rw (le-ltb (length out) 0 (omega arith)); output = rw (le-ltb (length out) 0 (omega arith)) })

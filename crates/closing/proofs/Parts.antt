@@ -1,55 +1,38 @@
--- Parts of a list, read as far as it goes, and what is answered and left where bytes are put. Assumes nothing.
-use Prim.Native.Nat.{ℕ, ◌+◌, ◌-◌, ◌<◌, ◌≤◌}
-use mathlib.Core.Path.{◌≡◌, sym, ◌∙◌}
-use mathlib.Core.Logic.{◌⊎◌, ⊎_elim}
-use mathlib.Core.List.{List, [], ◌++◌}
-use native.Mathlib.Nat.{zero-add}
+-- Three parts laid one after another over the front of an output. Assumes nothing.
+use Prim.Native.Nat.{ℕ, ◌+◌, ◌-◌, ◌≤◌}
+use mathlib.Core.Path.{◌≡◌, refl, sym, ap, ◌∙◌}
+use mathlib.Core.List.{List, ◌++◌}
 use native.Mathlib.Omega.{arith}
-use borrow.Author.Tests.{lt-ltb, le-ltb}
-use lib.ListN.{length, take, drop, length-append, length-take, length-drop, drop_of_length-le}
-use lib.Seq.{sets, take_all}
-use Rattle.cells.proofs.Over.{sets-front, sets-append}
-use Rattle.chain.specs.Paper.{done, too_short}
+use borrow.Author.Tests.{le-ltb}
+use borrow.Rule.Slice.PartMut.{put_mid}
+use Rattle.std.proofs.Common.{append_assoc}
+use Rattle.std.proofs.lemmas.List.{drop_at}
+use lib.ListN.{length, drop, length-append}
+use lib.Seq.{take_at, drop-drop}
+use Rattle.std.specs.Prelude.{Ok}
 use Rattle.closing.specs.Put.{Put}
 
--- k elements from a on are the n elements from at on, where both stop at the end of the list
-module _ (m : List ℕ) (at n a k : ℕ) (h : a ≤ at) (l : a ≤ length m) (f : k ≤ n) (g : k ≤ length m - a) where
-  pub part_is : ((a ≡ at) ⊎ (a ≡ length m)) → ((k ≡ n) ⊎ (k ≡ length m - a)) → take (a + k - a) (drop a m) ≡ take n (drop at m)
-  part_is u v =
-      let z : a + k - a ≡ k = omega arith in
-      rw z (⊎_elim (λ e. ⊎_elim (whole e) (rest e) v) past u)
-    where
-      whole : a ≡ at → k ≡ n → take k (drop a m) ≡ take n (drop at m)
-      whole e w = rw (e, w)
+-- a part laid behind a front of i bytes
+laid_behind : (a b o : List ℕ) (i : ℕ) → length a ≡ i → put_mid i (i + length b - i) (a ++ o) b ≡ (a ++ b) ++ drop (length b) o
+laid_behind a b o i e =
+    let k : i + length b - i ≡ length b = omega arith in
+    rw (k, take_at a o i e, drop_at a o i e) (sym (append_assoc a b (drop (length b) o)))
 
-      rest : a ≡ at → k ≡ length m - a → take k (drop a m) ≡ take n (drop at m)
-      rest e w =
-          rw (← e) (take_all k (drop a m) (omega (arith, length-drop a m)) ∙ sym (take_all n (drop a m) (omega (arith, length-drop a m))))
-
-      past : a ≡ length m → take k (drop a m) ≡ take n (drop at m)
-      past e =
-          let p : length m ≤ a = omega arith in
-          let q : length m ≤ at = omega arith in
-          rw (drop_of_length-le m p, drop_of_length-le m q) (take_all k [] (omega arith) ∙ sym (take_all n [] (omega arith)))
-
-  pub part_short : length (take (a + k - a) (drop a m)) ≤ n
-  part_short = simp (length-take, length-drop) (omega arith)
-
--- what put answers, and leaves
-module _ (bs out : List ℕ) where
-  pub put-short : length out < length bs → Put bs out (record { number = too_short; length = 0 }) out
-  put-short h = record { answer = rw (lt-ltb (length out) (length bs) h); output = rw (lt-ltb (length out) (length bs) h) }
-
-  pub put-done : (n : ℕ) (out' : List ℕ) → length bs ≤ length out → n ≡ length bs → out' ≡ sets out 0 bs → Put bs out (record { number = done; length = n }) out'
-  put-done n out' h e f =
-      record { answer = rw (le-ltb (length out) (length bs) h, e); output = rw (le-ltb (length out) (length bs) h) (f ∙ sets-front bs out h) }
-
--- the same of three parts, written one after another
 module _ (a b d out : List ℕ) where
   pub three_length : length a + length b + length d ≡ length (a ++ (b ++ d))
   three_length = omega (arith, length-append a (b ++ d), length-append b d)
 
-  pub three_sets : (x y z : List ℕ) → x ≡ sets out 0 a → y ≡ sets x (length a) b → z ≡ sets y (length a + length b) d
-      → z ≡ sets out 0 (a ++ (b ++ d))
-  three_sets x y z e f g =
-      g ∙ rw (f, e) (sym (sets-append a (b ++ d) out 0 ∙ rw zero-add (sets-append b d (sets out 0 a) (length a))))
+  -- x, y and z are what the parts of the output hold afterwards
+  pub three_laid : (x y z : List ℕ) → x ≡ a → y ≡ b → z ≡ d → length a + length b + length d ≤ length out
+      → Put (a ++ (b ++ d)) out (Ok (length a + length b + length d))
+          (put_mid (length a + length b) (length a + length b + length d - (length a + length b))
+          (put_mid (length a) (length a + length b - length a) (x ++ drop (length a) out) y) z)
+  three_laid x y z e f g h =
+      let two = laid_behind a b (drop (length a) out) (length a) refl in
+      let three = laid_behind (a ++ b) d (drop (length b) (drop (length a) out)) (length a + length b) (length-append a b) in
+      let rest : drop (length d) (drop (length b) (drop (length a) out)) ≡ drop (length (a ++ (b ++ d))) out =
+      ap (drop (length d)) (drop-drop (length b) (length a) out) ∙ drop-drop (length d) (length a + length b) out ∙ ap (λ (n : ℕ). drop n out) three_length in
+      rw (e, f, g, two, three, rest) (record {
+        answer = rw (le-ltb (length out) (length (a ++ (b ++ d))) (omega (arith, three_length)), three_length);
+        output = rw (le-ltb (length out) (length (a ++ (b ++ d))) (omega (arith, three_length))) (ap (λ (l : List ℕ). l ++ drop (length (a ++ (b ++ d))) out) (append_assoc a b d));
+      })

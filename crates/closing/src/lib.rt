@@ -6,6 +6,7 @@ mod output;
 
 ghost use Rattle.std.specs.Prelude.{◌≡◌, ◌++◌, ◌≤◌, length};
 ghost use Rattle.closing.specs.Closing.{window, after_preamble, after_start, ends_below, after_end, closing_bytes};
+ghost use Rattle.chain.specs.Refusal.{answered, length_in};
 ghost use Rattle.closing.specs.Calls.{Closing};
 ghost use Rattle.closing.specs.Put.{Put};
 
@@ -13,19 +14,20 @@ use crate::output::{part, put, put_three};
 use chain::eight::at8;
 use chain::kinds::{base_of, size_here};
 use chain::paper::*;
-use chain::state::open_number;
-use chain::window::{width, with_low};
+use chain::refusal::Refusal;
+use chain::state::open;
+use chain::window::{Window, with_low};
 use chain::{Chain, Place, Written};
 
-// The lead, then the present cells from first to last, then the tail. Memory is lent anew: the compiler then passes the slice itself, not
+// The lead, then the present cells of the window, then the tail. Memory is lent anew: the compiler then passes the slice itself, not
 // its address.
-fn put_window(c: Chain, mem: &[u8], lead: &[u8], first: u16, last: u16, out: &mut [u8]) -> Written
+fn put_window(c: Chain, mem: &[u8], lead: &[u8], w: Window, out: &mut [u8]) -> Result<usize, Refusal>
     requires { length lead.now ≤ 1 }
-    ensures { Put (lead.now ++ window c mem.now first last) out.old result out.new }
+    ensures { Put (lead.now ++ window c mem.now w.start w.end) out.old result out.new }
 {
     let ks = c.kinds;
-    let at = base_of(ks, c.place.device) + first as usize;
-    let cells = part(&mem[0..], at, width(first, last));
+    let at = base_of(ks, c.place.device) + usize::from(w.start);
+    let cells = part(&mem[0..], at, w.width());
     if 1 < c.place.left {
         return put_three(out, lead, cells, &[0x00, 0xff, 0xff]);
     }
@@ -33,7 +35,7 @@ fn put_window(c: Chain, mem: &[u8], lead: &[u8], first: u16, last: u16, out: &mu
 }
 
 // In a check 08 alone, refused with 7; in a write the rest of a stream without windows.
-fn put_after_preamble(c: Chain, out: &mut [u8]) -> Written
+fn put_after_preamble(c: Chain, out: &mut [u8]) -> Result<usize, Refusal>
     ensures { Put (after_preamble c) out.old result out.new }
 {
     if c.place.check == CHECKING {
@@ -44,7 +46,7 @@ fn put_after_preamble(c: Chain, out: &mut [u8]) -> Written
     put(out, &[stored, 0x00, 0x00, 0x00, NO_WINDOWS, POSTAMBLE])
 }
 
-fn put_after_start(c: Chain, out: &mut [u8]) -> Written
+fn put_after_start(c: Chain, out: &mut [u8]) -> Result<usize, Refusal>
     ensures { Put (after_start c) out.old result out.new }
 {
     if with_low(c.place.start, 0xff) < size_here(c) {
@@ -60,7 +62,7 @@ fn ends_below(p: Place) -> bool
     (p.end / 256 == p.start / 256) & (p.start % 256 != 0)
 }
 
-fn put_after_end(c: Chain, mem: &[u8], out: &mut [u8]) -> Written
+fn put_after_end(c: Chain, mem: &[u8], out: &mut [u8]) -> Result<usize, Refusal>
     ensures { Put (after_end c mem.now) out.old result out.new }
 {
     let p = c.place;
@@ -71,11 +73,15 @@ fn put_after_end(c: Chain, mem: &[u8], out: &mut [u8]) -> Written
     if (most < p.start) | !(most < size_here(c)) {
         return put(out, &[0xff]);
     }
-    put_window(c, mem, &[0x00], p.start, with_low(p.end, 0x00), out)
+    let w = Window {
+        start: p.start,
+        end: with_low(p.end, 0x00),
+    };
+    put_window(c, mem, &[0x00], w, out)
 }
 
 // The row of the awaited byte.
-fn put_closing(c: Chain, mem: &[u8], out: &mut [u8]) -> Written
+fn put_row(c: Chain, mem: &[u8], out: &mut [u8]) -> Result<usize, Refusal>
     ensures { Put (closing_bytes c mem.now) out.old result out.new }
 {
     let p = c.place;
@@ -94,11 +100,8 @@ fn put_closing(c: Chain, mem: &[u8], out: &mut [u8]) -> Written
         AT_START_LOW => put_after_start(c, out),
         AT_END => put(out, &[0xff, 0xff]),
         AT_END_LOW => put_after_end(c, mem, out),
-        AT_DATA => put_window(c, mem, &mem[0..0], p.next, p.end, out),
-        _ => Written {
-            number: DONE,
-            length: 0,
-        },
+        AT_DATA => put_window(c, mem, &[], Window { start: p.next, end: p.end }, out),
+        _ => Ok(0),
     }
 }
 
@@ -106,12 +109,13 @@ fn put_closing(c: Chain, mem: &[u8], out: &mut [u8]) -> Written
 pub fn closing(c: Chain, mem: &[u8], out: &mut [u8]) -> Written
     ensures { Closing c mem.now out.old result out.new }
 {
-    let n = open_number(c, mem.len());
-    if n != DONE {
-        return Written {
-            number: n,
-            length: 0,
-        };
-    }
-    put_closing(c, mem, out)
+    put_closing(c, mem, out).into()
+}
+
+// How many bytes close the open run.
+fn put_closing(c: Chain, mem: &[u8], out: &mut [u8]) -> Result<usize, Refusal>
+    ensures { Closing c mem.now out.old (record { number = answered result; length = length_in result }) out.new }
+{
+    open(c, mem.len())?;
+    put_row(c, mem, out)
 }

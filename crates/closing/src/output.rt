@@ -3,47 +3,30 @@ ghost use Rattle.std.specs.Prelude.{◌≡◌, ◌++◌, ◌+◌, ◌≤◌, len
 ghost use Rattle.std.proofs.lemmas.List.Edits.{sets};
 ghost use Rattle.closing.specs.Put.{Put};
 
-use cells::{copy, least};
-use chain::Written;
-use chain::paper::*;
+use chain::refusal::Refusal;
 
 // n cells from at on, as far as memory goes.
 pub fn part(mem: &[u8], at: usize, n: usize) -> &[u8]
     ensures { (result.now ≡ take n (drop at mem.now)) × (length result.now ≤ n) }
 {
-    let a = least(at, mem.len());
-    let e = a + least(n, mem.len() - a);
-    &mem[a..e]
+    let rest = mem.get(at..).unwrap_or(&[]);
+    &rest[..n.min(rest.len())]
 }
 
-// Bytes to the front of out, where there is room.
-pub fn put(out: &mut [u8], bytes: &[u8]) -> Written
+// Bytes to the front of out, where there is room: how many.
+pub fn put(out: &mut [u8], bytes: &[u8]) -> Result<usize, Refusal>
     ensures { Put bytes.now out.old result out.new }
 {
     let n = bytes.len();
     if out.len() < n {
-        return Written {
-            number: TOO_SHORT,
-            length: 0,
-        };
+        return Err(Refusal::TooShort);
     }
-    copy(out, bytes);
-    Written {
-        number: DONE,
-        length: n,
-    }
-}
-
-// Bytes into out, from the cell at on.
-fn put_at(out: &mut [u8], at: usize, bytes: &[u8])
-    requires { at + length bytes.now ≤ length out.old }
-    ensures { out.new ≡ sets out.old at bytes.now }
-{
-    copy(&mut out[at..], bytes);
+    out[..n].copy_from_slice(bytes);
+    Ok(n)
 }
 
 // The same as put, of three parts one after another: a window's lead, its cells and what follows.
-pub fn put_three(out: &mut [u8], lead: &[u8], cells: &[u8], end: &[u8]) -> Written
+pub fn put_three(out: &mut [u8], lead: &[u8], cells: &[u8], end: &[u8]) -> Result<usize, Refusal>
     requires { (length lead.now ≤ 1) × (length cells.now ≤ 65536) × (length end.now ≤ 3) }
     ensures { Put (lead.now ++ (cells.now ++ end.now)) out.old result out.new }
 {
@@ -51,16 +34,10 @@ pub fn put_three(out: &mut [u8], lead: &[u8], cells: &[u8], end: &[u8]) -> Writt
     let j = i + cells.len();
     let n = j + end.len();
     if out.len() < n {
-        return Written {
-            number: TOO_SHORT,
-            length: 0,
-        };
+        return Err(Refusal::TooShort);
     }
-    put_at(out, 0, lead);
-    put_at(out, i, cells);
-    put_at(out, j, end);
-    Written {
-        number: DONE,
-        length: n,
-    }
+    out[..i].copy_from_slice(lead);
+    out[i..j].copy_from_slice(cells);
+    out[j..n].copy_from_slice(end);
+    Ok(n)
 }
