@@ -25,8 +25,8 @@ module _ (a b d out : List ℕ) where
   -- x, y and z are what the parts of the output hold afterwards
   pub three_laid : (x y z : List ℕ) → x ≡ a → y ≡ b → z ≡ d → length a + length b + length d ≤ length out
       → Put (a ++ (b ++ d)) out (Ok (length a + length b + length d))
-          (put_mid (length a + length b) (length a + length b + length d - (length a + length b))
-          (put_mid (length a) (length a + length b - length a) (x ++ drop (length a) out) y) z)
+      (put_mid (length a + length b) (length a + length b + length d - (length a + length b))
+      (put_mid (length a) (length a + length b - length a) (x ++ drop (length a) out) y) z)
   three_laid x y z e f g h =
       let two = laid_behind a b (drop (length a) out) (length a) refl in
       let three = laid_behind (a ++ b) d (drop (length b) (drop (length a) out)) (length a + length b) (length-append a b) in

@@ -21,7 +21,13 @@ use chain::{Chain, Place, Written};
 
 // The lead, then the present cells of the window, then the tail. Memory is lent anew: the compiler then passes the slice itself, not
 // its address.
-fn put_window(c: Chain, mem: &[u8], lead: &[u8], w: Window, out: &mut [u8]) -> Result<usize, Refusal>
+fn put_window(
+    c: Chain,
+    mem: &[u8],
+    lead: &[u8],
+    w: Window,
+    out: &mut [u8],
+) -> Result<usize, Refusal>
     requires { length lead.now ≤ 1 }
     ensures { Put (lead.now ++ window c mem.now w.start w.end) out.old result out.new }
 {
@@ -85,7 +91,12 @@ fn put_row(c: Chain, mem: &[u8], out: &mut [u8]) -> Result<usize, Refusal>
     ensures { Put (closing_bytes c mem.now) out.old result out.new }
 {
     let p = c.place;
+    let to_come = Window {
+        start: p.next,
+        end: p.end,
+    };
     let a = p.awaited;
+    // Kept: C interface: the awaited byte is a number of Place, and a caller in C may lend any.
     match a {
         AT_PREAMBLE => put(out, &[0x00]),
         AT_SECOND => put(out, &[0x00]),
@@ -100,7 +111,7 @@ fn put_row(c: Chain, mem: &[u8], out: &mut [u8]) -> Result<usize, Refusal>
         AT_START_LOW => put_after_start(c, out),
         AT_END => put(out, &[0xff, 0xff]),
         AT_END_LOW => put_after_end(c, mem, out),
-        AT_DATA => put_window(c, mem, &[], Window { start: p.next, end: p.end }, out),
+        AT_DATA => put_window(c, mem, &[], to_come, out),
         _ => Ok(0),
     }
 }

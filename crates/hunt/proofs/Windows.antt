@@ -9,7 +9,7 @@ use native.Mathlib.Omega.{arith}
 use lib.Dec.{lit<}
 use lib.ListN.{length, get_or, get_or-eq_default}
 use lib.Pow.{pow_pos, pow-add, mod-pow-add, mod-mod-pow, field, high, low, shr_lt, shr-shr, shl-shr}
-use lib.Bits.{bit_and, bit_or, and_mask, mask_lt, or_shifted_r}
+use lib.Bits.{bit_and, bit_or, and_mask, or_shifted_r}
 use Rattle.hunt.specs.Bits.{bit_at, bits_from, byte_at}
 
 pub lt-or_ge : (a b : ℕ) → (a < b) ⊎ (b ≤ a)
@@ -89,29 +89,16 @@ pub byte_joined : (s : List ℕ) (q k h l : ℕ) → get_or s q 0 < 2 ^ 8 → k 
     → (h * 2 ^ 8 + l) / 2 ^ k % 2 ^ 8 ≡ byte_at s (8 * q + k)
 byte_joined s q k h l b f e g = ap₂ (λ (x y : ℕ). (x * 2 ^ 8 + y) / 2 ^ k % 2 ^ 8) g e ∙ sym (byte_pair s q b k f)
 
--- past the end, and in the last byte, whose bits are followed by none
+-- past the end
 pub byte_past : (s : List ℕ) (q k : ℕ) → length s ≤ q → k < 8 → byte_at s (8 * q + k) ≡ 0
 byte_past s q k h l =
     let z : get_or s q 0 ≡ 0 = get_or-eq_default s 0 h in
     let y : get_or s (q + 1) 0 ≡ 0 = get_or-eq_default s 0 (omega arith) in
     byte_pair s q (rw z (lit< tt)) k l ∙ ap (λ (x : ℕ). x / 2 ^ k % 2 ^ 8) (rw (y, z)) ∙ ap (λ (x : ℕ). x % 2 ^ 8) (zero-div (2 ^ k))
 
-pub byte_last : (s : List ℕ) (q k : ℕ) → get_or s q 0 < 2 ^ 8 → length s ≤ q + 1 → k < 8 → byte_at s (8 * q + k) ≡ (0 * 2 ^ 8 + get_or s q 0) / 2 ^ k % 2 ^ 8
-byte_last s q k b h l =
-    let y : get_or s (q + 1) 0 ≡ 0 = get_or-eq_default s 0 h in
-    byte_pair s q b k l ∙ rw y
-
 -- bit p is bit p & 7 of byte p >> 3
 pub place_split : (p : ℕ) → 8 * (p / 8) + bit_and p 7 ≡ p
 place_split p = omega (arith, and_mask p 3)
-
-pub byte_split : (s : List ℕ) (p : ℕ) → get_or s (p / 8) 0 < 2 ^ 8 → byte_at s p ≡ pair s (p / 8) / 2 ^ bit_and p 7 % 2 ^ 8
-byte_split s p h = ap (byte_at s) (sym (place_split p)) ∙ byte_pair s (p / 8) h (bit_and p 7) (mask_lt p 3)
-
-pub byte-whole_split : (s : List ℕ) (p : ℕ) → get_or s (p / 8) 0 < 2 ^ 8 → bit_and p 7 ≡ 0 → byte_at s p ≡ get_or s (p / 8) 0
-byte-whole_split s p h e =
-    let at : p ≡ 8 * (p / 8) = omega (arith, place_split p) in
-    ap (byte_at s) at ∙ byte-whole s (p / 8) h
 
 -- a << j at a word of k + j bits keeps the k low bits of a
 shl_drop : (a k j : ℕ) → a * 2 ^ j % 2 ^ (k + j) ≡ a % 2 ^ k * 2 ^ j

@@ -14,9 +14,6 @@ use chain::refusal::Refusal;
 // The hunt takes the positions 0 to 64.
 const POSITIONS: usize = 65;
 
-// For a caller that keeps a position in a number: there is none.
-pub const NOWHERE: usize = POSITIONS;
-
 // Where the preamble began, 0 to 64, how many bits are left after the last whole byte, and how many bytes were written; each 0 where the
 // number is not 0.
 #[repr(C)]

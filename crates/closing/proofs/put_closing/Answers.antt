@@ -1,4 +1,4 @@
-use Rattle.std.proofs.Common.{◌≡◌, ◌∙◌, sym, rules, Err, length}
+use Rattle.std.proofs.Common.{◌≡◌, rules, Err, length}
 use borrow.Author.Tests.{eqb-false}
 use Rattle.chain.specs.Paper.{done}
 use Rattle.chain.specs.Refusal.{number_of}
