@@ -3,10 +3,10 @@ use Prim.Native.Nat.{ℕ, suc, ◌+◌, ◌-◌, ◌*◌, ◌<◌, ◌≤◌}
 use mathlib.Core.Bool.{true}
 use mathlib.Core.Path.{◌≡◌, refl, sym, ap, ◌∙◌}
 use mathlib.Core.List.{List, [], ◌∷◌}
-use native.Mathlib.Nat.{zero-add, add-zero, add_assoc}
+use native.Mathlib.Nat.{zero-add, add_assoc}
 use native.Mathlib.Numerals.{add-one}
 use native.Mathlib.Omega.{arith}
-use lib.ListN.{length, get_or, set, take, drop, length-drop, drop_of_length-le}
+use lib.ListN.{length, get_or, set, take, drop, length-drop}
 use lib.Seq.{sets, drop-cons, drop-drop, length-take-le}
 use Rattle.chain.specs.declared.Chain.{Chain}
 use Rattle.chain.specs.declared.Place.{Place}
@@ -26,9 +26,6 @@ use Rattle.sheet.proofs.Left.{Idle, left-idle, left-size}
 plus-zeros : (r : Sheet) → r.number ≡ done → plus (refused_sheet done) r ≡ r
 plus-zeros r e =
     rw (zero-add r.taken, zero-add r.«data», zero-add r.cells, zero-add r.again, zero-add r.bits, zero-add r.edges, ← e)
-
-plus_nothing : (a : Sheet) → plus a (sums_of []) ≡ a
-plus_nothing a = rw (add-zero a.taken, add-zero a.«data», add-zero a.cells, add-zero a.again, add-zero a.bits, add-zero a.edges)
 
 plus_row : (a r : Sheet) (rs : List Sheet) → plus a (sums_of (r ∷ rs)) ≡ plus (plus a r) (sums_of rs)
 plus_row a r rs =
@@ -191,13 +188,3 @@ module _ (mode : ℕ) (ss ls : List ℕ) (d₀ : Device) (n₀ f₀ : List ℕ) 
       → Entering e (set n j r.number) f (plus sums r) at i
       → c ≡ e.chain → mem ≡ e.memory → q ≡ r → sums' ≡ plus sums q → Entering (device c mem) (set n j q.number) f sums' at i
   entered e r n f sums at i j x h g k l = rw (h, g, l, k) x
-
-  pub entering_ends : (d : Device) (n f : List ℕ) (sums : Sheet) (at i : ℕ) → Entering d n f sums at i → length ls ≤ i
-      → (sums ≡ sums_of all) × (n ≡ sets n₀ 0 (numbers_of all)) × (f ≡ sets f₀ 0 (figures_of all))
-  entering_ends d n f sums at i x h =
-      let z : drop i ls ≡ [] = drop_of_length-le ls h in
-      let e : rest d at i ≡ [] = rw z in (
-        sym (x.sums_are ∙ ap (λ (rs : List Sheet). plus sums (sums_of rs)) e ∙ plus_nothing sums),
-        sym (x.numbers_are ∙ ap (λ (rs : List Sheet). sets n i (numbers_of rs)) e),
-        sym (x.figures_are ∙ ap (λ (rs : List Sheet). sets f (figures_a_row * i) (figures_of rs)) e),
-      )

@@ -1,10 +1,9 @@
 -- Bytes of a write that store nothing: one byte, and a window's null byte, start and end at once. Assumes nothing.
-use Prim.Native.Nat.{ℕ, zero, suc, ◌+◌, ◌-◌, ◌*◌, ◌%◌, ◌<◌, ◌≤◌}
+use Prim.Native.Nat.{ℕ, zero, suc, ◌+◌, ◌-◌, ◌*◌, ◌<◌, ◌≤◌}
 use mathlib.Core.Bool.{true}
 use mathlib.Core.Logic.{◌≢◌}
-use mathlib.Core.Path.{◌≡◌, refl, sym, ap, ap₂, subst, ◌∙◌}
+use mathlib.Core.Path.{◌≡◌, refl, sym, ap, subst, ◌∙◌}
 use mathlib.Core.List.{List, [], ◌∷◌, ◌++◌}
-use native.Mathlib.Nat.{mod-eq_of_lt}
 use native.Mathlib.Omega.{arith}
 use lib.ListN.{length, replicate, length-replicate}
 use Rattle.chain.specs.declared.Chain.{Chain}
@@ -131,10 +130,3 @@ module _ (d : Chain) (len : ℕ) (w : Writing d len) (s : List ℕ) (q k n at : 
         write = subst (λ (x : Chain). Writing x len) (sym e)
             (writing-run d len bs (with_place d (headed_of d.place start end)) (replicate len 0) w (small 0, (small 1, (small 2, (small 3, (small 4, tt))))) r);
       }
-
--- a byte of the slice, and the two of a bound
-pub byte-mod : (s : List ℕ) (i k b : ℕ) → k < 8 → b ≡ byte_at s (8 * i + k % 8) → b ≡ byte_at s (8 * i + k)
-byte-mod s i k b h e = e ∙ ap (λ (x : ℕ). byte_at s (8 * i + x)) (mod-eq_of_lt h)
-
-pub pair-mod : (s : List ℕ) (i k a b r : ℕ) → k < 8 → a ≡ byte_at s (8 * i + k % 8) → b ≡ byte_at s (8 * (i + 1) + k % 8) → r ≡ a * 256 + b → r ≡ bound_at s k i
-pair-mod s i k a b r h e f g = g ∙ ap₂ (λ (x y : ℕ). x * 256 + y) (byte-mod s i k a h e) (byte-mod s (i + 1) k b h f)

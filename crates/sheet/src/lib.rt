@@ -18,6 +18,7 @@ ghost use Rattle.chain.specs.Mode.{mode_number};
 ghost use Rattle.chain.specs.Refusal.{answered};
 ghost use Rattle.sheet.specs.Sheet.{sum, sheet_number, LoadSheet};
 
+use crate::row::Target;
 use crate::table::rows;
 use chain::kinds::Kind;
 use chain::mode::Mode;
@@ -27,6 +28,7 @@ use chain::refusal::Refusal;
 
 // The figures of one stream, with its number, or the sums of all, with the call's: bytes taken, data bytes, distinct cells stored into, cells stored into
 // more than once, bits of memory that differ before and after, clock edges.
+// Kept: C interface: the number stands beside the figures, 0 where nothing is refused.
 #[repr(C)]
 #[derive(Clone, Copy, Debug, Default, PartialEq, Eq)]
 pub struct Sheet {
@@ -79,6 +81,7 @@ fn accept(
 
 // Loads the streams, which lie one after another, one for each length, and fills in a number and six figures for each. Memory before and after, and a mark
 // for each cell, are on the stack: three times the largest device.
+// Kept: C interface: a slice with the lengths of the streams in it, and two tables beside each other.
 pub fn load_sheet(
     kind: u8,
     mode: u8,
@@ -95,19 +98,15 @@ pub fn load_sheet(
         Err(refusal) => return Sheet::refused(refusal),
     };
     let size = usize::from(kind.size());
-    let mut mem = [0u8; MOST_CELLS];
-    let mut old = [0u8; MOST_CELLS];
+    let mut memory = [0u8; MOST_CELLS];
+    let mut before = [0u8; MOST_CELLS];
     let mut marks = [0u8; MOST_CELLS];
     let kinds = [kind.number(), 0, 0, 0, 0, 0, 0, 0];
-    rows(
-        new(1, kinds, &mem[..size]).chain,
-        mode,
-        streams,
-        lengths,
-        &mut mem[..size],
-        &mut old[..size],
-        &mut marks[..size],
-        numbers,
-        figures,
-    )
+    let target = Target {
+        chain: new(1, kinds, &memory[..size]).chain,
+        memory: &mut memory[..size],
+        before: &mut before[..size],
+        marks: &mut marks[..size],
+    };
+    rows(target, mode, streams, lengths, numbers, figures)
 }

@@ -29,6 +29,7 @@ fn load_pieces(c: Chain, mem: &mut [u8], s: &[u8], start: Bit, room: &mut [u8]) 
     let n = s.len() - 1;
     let mut d = c;
     let mut at = start.byte;
+    // Kept: no plainer: a piece is as long as it comes out, so that the next one's start is known only after it.
     while at < n {
         let m = piece(s, Bit { byte: at, ..start }, room);
         let f = taken(d, mem, &room[..m]);

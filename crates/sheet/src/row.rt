@@ -1,6 +1,7 @@
 // One stream: hunted where it is serial, loaded, its figures, and the device that it leaves.
 ghost use Rattle.std.specs.Prelude.{◌≡◌, ◌+◌, ◌*◌, ◌≤◌, ◌<◌, length, MatchOption};
 ghost use Rattle.chain.specs.Paper.{most_bytes};
+ghost use Rattle.chain.specs.Bytes.{Bytes};
 ghost use Rattle.chain.specs.Mode.{mode_number};
 ghost use Rattle.chain.specs.Set.{with_place, closed_place};
 ghost use Rattle.grammar.specs.Stores.{put_into};
@@ -23,11 +24,13 @@ use chain::{Chain, closed_place};
 use hunt::find;
 use machine::{Answer, start};
 
-// A row, and the chain that its stream leaves.
-#[derive(Clone, Copy)]
-pub struct Loaded {
+// The device that streams are loaded into: its chain and its memory, between two streams the memory once more, and room for a mark of each cell.
+#[derive(Drop)]
+pub struct Target<'a> {
     pub chain: Chain,
-    pub row: Sheet,
+    pub memory: &'a mut [u8],
+    pub before: &'a mut [u8],
+    pub marks: &'a mut [u8],
 }
 
 #[derive(Clone, Copy)]
@@ -118,40 +121,37 @@ fn row(
     }
 }
 
-// Loads a stream into the device, whose memory old repeats. A run that is used up is closed with no byte fed: closing bytes change no cell and no register.
-pub fn stream(
-    c: Chain,
-    mode: Mode,
-    s: &[u8],
-    mem: &mut [u8],
-    old: &mut [u8],
-    marks: &mut [u8],
-) -> Loaded
-    requires { Ready c (length mem.old) × (length s.now ≤ most_bytes) × (old.old ≡ mem.old) × (length marks.old ≡ length mem.old) }
-    ensures row_value { result.row ≡ row_of (device c mem.old) (mode_number mode) s.now }
-    ensures chain_value { result.chain ≡ (left_by (device c mem.old) (mode_number mode) s.now).chain }
-    ensures mem_after { mem.new ≡ (left_by (device c mem.old) (mode_number mode) s.now).memory }
-    ensures after { old.new ≡ (left_by (device c mem.old) (mode_number mode) s.now).memory }
-{
-    let Some(p) = position(mode, s) else {
-        return Loaded {
-            chain: c,
-            row: unfound(mode),
+impl Target<'_> {
+    // Loads a stream. A run that is used up is closed with no byte fed: closing bytes change no cell and no register.
+    pub fn load(&mut self, mode: Mode, s: &[u8]) -> Sheet
+        requires { Ready self.old.chain (length self.old.memory.now) × (length s.now ≤ most_bytes) × (self.old.before.now ≡ self.old.memory.now)
+            × (length self.old.marks.now ≡ length self.old.memory.now) × Bytes self.old.memory.now }
+        ensures row_value { result ≡ row_of (device self.old.chain self.old.memory.now) (mode_number mode) s.now }
+        ensures chain_value { self.new.chain ≡ (left_by (device self.old.chain self.old.memory.now) (mode_number mode) s.now).chain }
+        ensures memory_after { self.new.memory.now ≡ (left_by (device self.old.chain self.old.memory.now) (mode_number mode) s.now).memory }
+        ensures before_after { self.new.before.now ≡ (left_by (device self.old.chain self.old.memory.now) (mode_number mode) s.now).memory }
+        ensures marks_after { length self.new.marks.now ≡ length self.old.marks.now }
+    {
+        let Some(p) = position(mode, s) else {
+            return unfound(mode);
         };
-    };
-    let bytes = BytesAfter { stream: s, p };
-    let run = start(c, mem, mode.number(), WRITING).chain;
-    let fed = load(run, mem, bytes, marks);
-    let stores = Stores {
-        chain: run,
-        size: mem.len(),
-        bytes,
-        at: 0,
-    };
-    let row = row(stores, mode, fed.answer, mem, old, marks);
-    let chain = Chain {
-        place: closed_place(),
-        ..fed.chain
-    };
-    Loaded { chain, row }
+        let bytes = BytesAfter { stream: s, p };
+        let memory = &mut *self.memory;
+        let before = &mut *self.before;
+        let marks = &mut *self.marks;
+        let run = start(self.chain, memory, mode.number(), WRITING).chain;
+        let fed = load(run, memory, bytes, marks);
+        let stores = Stores {
+            chain: run,
+            size: memory.len(),
+            bytes,
+            at: 0,
+        };
+        let row = row(stores, mode, fed.answer, memory, before, marks);
+        self.chain = Chain {
+            place: closed_place(),
+            ..fed.chain
+        };
+        row
+    }
 }

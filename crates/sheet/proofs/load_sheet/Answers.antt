@@ -10,8 +10,7 @@ use Rattle.chain.specs.Calls.{new_of}
 use Rattle.chain.proofs.PassedUp.{not_done}
 use Rattle.sheet.specs.Stream.{Device, device, reset_device}
 use Rattle.sheet.specs.Sheet.{streams_of, rows_of, sums_of, numbers_of, figures_of}
-use Rattle.sheet.specs.Steps.{Ready}
-use Rattle.sheet.proofs.Left.{reset_idle}
+use Rattle.sheet.proofs.Left.{Idle, reset_idle}
 use Rattle.sheet.proofs.Accepted.{accepted}
 use Rattle.sheet.proofs.Whole.{zeros-front, new_device, refused, filled}
 use Rattle.sheet.proofs.load_sheet.Goals as goal
@@ -36,7 +35,8 @@ rows-requires c =
     let ch : c.new.result.chain ≡ (reset_device a.kind).chain =
     ap (λ (m : Made). m.chain) c.new.ensures.made ∙ ap₂ (λ (k j : ℕ). (new_of 1 (k ∷ replicate 7 0) j).chain) (c.number.ensures ∙ o.named.0) l ∙ new_device a.kind x.known in
     let dev : device c.new.result.chain mem ≡ reset_device a.kind = ap₂ device ch z in
-    (subst (λ (d : Device). Ready d.chain (length d.memory)) (sym dev) (reset_idle a.kind x.known).ready, refl, refl, x.few, x.exact, x.short, x.room_numbers, x.room_figures)
+    let i = subst Idle (sym dev) (reset_idle a.kind x.known) in
+    (i.ready, i.bytes, refl, refl, x.few, x.exact, x.short, x.room_numbers, x.room_figures)
 
 pub returns : goal.returns
 returns c =
