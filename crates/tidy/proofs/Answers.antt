@@ -19,6 +19,7 @@ use Rattle.reader.specs.Stream.{preamble_at, head_length, count_at, stream_stop}
 use Rattle.reader.proofs.Streams.{stream-done}
 use Rattle.reader.specs.Given.{windows_at}
 use Rattle.tidy.specs.Tidy.{last_byte, tidied, tidy_number, Tidies}
+use Rattle.chain.specs.declared.window.Window.{Window as Row}
 use Rattle.tidy.specs.Steps.{spans_in, Gathered, long_of, AtPlaces, laid_out, Ready, ReadWhole, room_number}
 use Rattle.tidy.proofs.Lengths.{in_length}
 use Rattle.tidy.proofs.Whole.{laid_is, laid-length}
@@ -31,7 +32,7 @@ refused m n bytes out e h = record { answer = rw (e, ne_eqb n done h); output = 
 
 -- ---- a stream that was read whole
 
-module _ (size : ℕ) (s : List ℕ) (n : ℕ) (table ends out : List ℕ) (q : ReadWhole size s n (length table) (length ends)) where
+module _ (size : ℕ) (s : List ℕ) (n : ℕ) (table : List Row) (ends out : List ℕ) (q : ReadWhole size s n (length table) (length ends)) where
   -- the front of the table is lent, as long as there are windows
   pub front : length (take n table) ≡ n
   front = length-take-le n table q.few
@@ -40,11 +41,11 @@ module _ (size : ℕ) (s : List ℕ) (n : ℕ) (table ends out : List ℕ) (q : 
   lent = (rw front q.whole, omega (arith, front, q.few, q.table), q.ends, q.small)
 
   -- m spans come back in it, and the windows' places in the other table
-  module _ (back places : List ℕ) (m : ℕ)
+  module _ (back : List Row) (places : List ℕ) (m : ℕ)
       (g : (m ≤ length (take n table)) × (length back ≡ length (take n table))
       × Gathered size (windows_at size s (length (take n table)) head_length) (spans_in (take m back))
       × AtPlaces places (spans_in (take m back)) 0 (windows_at size s (length (take n table)) head_length)) where
-    abbrev spans : List ℕ
+    abbrev spans : List Row
     spans = take m (back ++ drop n table)
 
     spans_are : spans ≡ take m back

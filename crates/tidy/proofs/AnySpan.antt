@@ -10,6 +10,7 @@ use lib.Dec.{ltb, leb}
 use Rattle.chain.proofs.ByCases.{by_test}
 use Rattle.chain.proofs.Means.{m-le, m-and}
 use Rattle.chain.specs.Rules.{pick}
+use Rattle.chain.specs.declared.window.Window.{Window as Row}
 use Rattle.tidy.specs.Spans.{Span, has}
 use Rattle.tidy.specs.InOrder.{total, Same}
 use Rattle.tidy.specs.Steps.{key_span, key_spans, Ordered, Below, spanned, Inside}
@@ -20,17 +21,17 @@ any_span t (x ∷ xs) = t x || any_span t xs
 
 -- counted, they are as many in any order
 module _ (ends : List ℕ) (t : Span → Bool) where
-  abbrev counting : ℕ → ℕ
+  abbrev counting : Row → ℕ
   counting x = pick (t (key_span ends x)) 1 0
 
-  any-counted : (xs : List ℕ) → any_span t (key_spans ends xs) ≡ ltb 0 (total counting xs)
+  any-counted : (xs : List Row) → any_span t (key_spans ends xs) ≡ ltb 0 (total counting xs)
   any-counted [] = refl
   any-counted (x ∷ xs) =
       by_test (t (key_span ends x))
       (λ e. rw e (sym (lt-ltb 0 (1 + total counting xs) (omega arith))))
       (λ e. let z : 0 + total counting xs ≡ total counting xs = omega arith in rw (e, z) (any-counted xs))
 
-  pub same-any : (xs ys : List ℕ) → Same xs ys → any_span t (key_spans ends xs) ≡ any_span t (key_spans ends ys)
+  pub same-any : (xs ys : List Row) → Same xs ys → any_span t (key_spans ends xs) ≡ any_span t (key_spans ends ys)
   same-any xs ys h = any-counted xs ∙ rw (h counting) (sym (any-counted ys))
 
 -- ---- what is said by it

@@ -7,14 +7,15 @@ use native.Mathlib.Numerals.{add-one}
 use lib.ListN.{length, take, set, length-set}
 use lib.Seq.{take-suc-set, take_all}
 use Rattle.chain.specs.Paper.{done}
+use Rattle.chain.specs.declared.window.Window.{Window as Row}
 use Rattle.reader.specs.Windows.{ReadWindow, read_window_of, windows_stop}
 use Rattle.reader.specs.Stream.{head_length}
 use Rattle.reader.proofs.Windows.{windows-first, windows-list-none}
 use Rattle.reader.specs.Given.{windows_at}
-use Rattle.tidy.specs.Steps.{keys_of, ends_of}
+use Rattle.tidy.specs.Steps.{row, keys_of, ends_of}
 
 module _ (size : ℕ) (s : List ℕ) (n : ℕ) where
-  pub record Collecting (xs ends : List ℕ) (at i : ℕ) : Type 0 where
+  pub record Collecting (xs : List Row) (ends : List ℕ) (at i : ℕ) : Type 0 where
     pub upto : i ≤ n
     pub few : n ≤ 255
     pub long : length xs ≡ n
@@ -23,14 +24,14 @@ module _ (size : ℕ) (s : List ℕ) (n : ℕ) where
     pub keys : keys_of 0 (windows_at size s n head_length) ≡ take i xs ++ keys_of i (windows_at size s (n - i) at)
     pub last : ends_of (windows_at size s n head_length) ≡ take i ends ++ ends_of (windows_at size s (n - i) at)
 
-  pub collecting_none : (xs ends : List ℕ) → n ≤ 255 → (windows_stop size s n head_length).number ≡ done → length xs ≡ n → length ends ≡ 256 → Collecting xs ends head_length 0
+  pub collecting_none : (xs : List Row) (ends : List ℕ) → n ≤ 255 → (windows_stop size s n head_length).number ≡ done → length xs ≡ n → length ends ≡ 256 → Collecting xs ends head_length 0
   collecting_none xs ends f w l m =
       let e : n - 0 ≡ n = omega arith in
       record { upto = omega arith; few = f; long = l; many = m; whole = rw e w; keys = rw e; last = rw e }
 
-  module _ (xs ends : List ℕ) (at i : ℕ) (c : Collecting xs ends at i) where
+  module _ (xs : List Row) (ends : List ℕ) (at i : ℕ) (c : Collecting xs ends at i) where
     pub collecting_more : (w : ReadWindow) → i < n → w ≡ read_window_of size s at
-        → Collecting (set xs i (w.start * 256 + i)) (set ends i w.end) w.next (i + 1)
+        → Collecting (set xs i (row w.start i)) (set ends i w.end) w.next (i + 1)
     collecting_more w h e =
         let r : ReadWindow = read_window_of size s at in
         let f = windows-first size s (n - i) at (omega arith) c.whole in
@@ -38,12 +39,12 @@ module _ (size : ℕ) (s : List ℕ) (n : ℕ) where
         record {
           upto = omega arith;
           few = c.few;
-          long = length-set xs i (w.start * 256 + i) ∙ c.long;
+          long = length-set xs i (row w.start i) ∙ c.long;
           many = length-set ends i w.end ∙ c.many;
           whole = rw (e, ← k) f.2;
           keys = c.keys
-              ∙ rw (f.1, e, ← k, add-one i, take-suc-set xs i (r.start * 256 + i) (omega (arith, c.long)))
-              (sym (append_assoc (take i xs) ((r.start * 256 + i) ∷ []) _));
+              ∙ rw (f.1, e, ← k, add-one i, take-suc-set xs i (row r.start i) (omega (arith, c.long)))
+              (sym (append_assoc (take i xs) ((row r.start i) ∷ []) _));
           last = c.last
               ∙ rw (f.1, e, ← k, add-one i, take-suc-set ends i r.end (omega (arith, c.few, c.many)))
               (sym (append_assoc (take i ends) (r.end ∷ []) _));

@@ -5,23 +5,24 @@ use mathlib.Core.List.{List, ◌++◌}
 use native.Mathlib.Omega.{arith}
 use lib.ListN.{length, take, drop, get_or, replicate, length-replicate, take-append-drop}
 use Rattle.chain.specs.Window.{width_of}
+use Rattle.chain.specs.declared.window.Window.{Window as Row}
 use Rattle.chain.specs.Output.{over}
 use Rattle.chain.proofs.Over.{tail-length, back, over-more, length_more}
-use Rattle.tidy.specs.Steps.{decoded, spans_in, window_bytes, render, long_of}
+use Rattle.tidy.specs.Steps.{no_row, spans_in, window_bytes, render, long_of}
 use Rattle.tidy.proofs.Values.{values-zero}
 use Rattle.tidy.proofs.Lengths.{in_cons, in_none, long_more}
 
 abbrev empty : ℕ → ℕ
 empty i = 0
 
-render-more : (xs : List ℕ) (i : ℕ) → i < length xs
+render-more : (xs : List Row) (i : ℕ) → i < length xs
     → render (spans_in (drop i xs)) empty
-    ≡ window_bytes (decoded (get_or xs i 0)).start (decoded (get_or xs i 0)).end (replicate (width_of (decoded (get_or xs i 0)).start (decoded (get_or xs i 0)).end) 0)
+    ≡ window_bytes (get_or xs i no_row).start (get_or xs i no_row).end (replicate (width_of (get_or xs i no_row).start (get_or xs i no_row).end) 0)
     ++ render (spans_in (drop (i + 1) xs)) empty
 unfolding render
-render-more xs i h = rw (in_cons xs i h, values-zero (width_of (decoded (get_or xs i 0)).start (decoded (get_or xs i 0)).end) (decoded (get_or xs i 0)).start)
+render-more xs i h = rw (in_cons xs i h, values-zero (width_of (get_or xs i no_row).start (get_or xs i no_row).end) (get_or xs i no_row).start)
 
-module _ (xs o₀ : List ℕ) where
+module _ (xs : List Row) (o₀ : List ℕ) where
   pub record Framing (o : List ℕ) (at i : ℕ) : Type 0 where
     pub upto : i ≤ length xs
     pub long : length o ≡ length o₀
@@ -31,18 +32,23 @@ module _ (xs o₀ : List ℕ) where
   pub framing_none : long_of (spans_in xs) ≤ length o₀ → Framing o₀ 0 0
   framing_none h = record { upto = omega arith; long = refl; room = omega arith; rest = refl }
 
-  module _ (o : List ℕ) (at i : ℕ) (f : Framing o at i) (h : i < length xs) (a e n : ℕ) (p : a ≡ (decoded (get_or xs i 0)).start)
-      (r : e ≡ (decoded (get_or xs i 0)).end) (w : n ≡ width_of a e) where
+  module _ (o : List ℕ) (at i : ℕ) (f : Framing o at i) (h : i < length xs) where
+    abbrev x : Row
+    x = get_or xs i no_row
+
+    abbrev n : ℕ
+    n = width_of x.start x.end
+
     k : 5 + n + long_of (spans_in (drop (i + 1) xs)) ≡ long_of (spans_in (drop i xs))
-    k = sym (long_more xs i h ∙ rw (w, p, r))
+    k = sym (long_more xs i h)
 
     pub framing_room : 5 + n ≤ length (take (length o - at) (drop at o))
     framing_room = rw (tail-length at o) (omega (arith, k, f.room))
 
-    pub framing_more : (ys : List ℕ) → ys ≡ over (window_bytes a e (replicate n 0)) (take (length o - at) (drop at o))
+    pub framing_more : (ys : List ℕ) → ys ≡ over (window_bytes x.start x.end (replicate n 0)) (take (length o - at) (drop at o))
         → Framing (take at o ++ (ys ++ drop (length o - at) (drop at o))) (at + (5 + n)) (i + 1)
     framing_more ys q =
-        let win : List ℕ = window_bytes a e (replicate n 0) in
+        let win : List ℕ = window_bytes x.start x.end (replicate n 0) in
         let l : length win ≡ 5 + n = omega (arith, length-replicate {A = ℕ} n 0) in
         let b : take at o ++ (ys ++ drop (length o - at) (drop at o)) ≡ take at o ++ over win (drop at o) = back at win o ys q in
         let z : length (take at o ++ over win (drop at o)) ≡ length o = length_more at win o (omega (arith, k, f.room)) in
@@ -50,7 +56,7 @@ module _ (xs o₀ : List ℕ) where
           upto = omega arith;
           long = rw b z ∙ f.long;
           room = rw (b, z) (omega (arith, k, f.room));
-          rest = f.rest ∙ rw (render-more xs i h, ← p, ← r, ← w, b, ← l) (over-more at win _ o (omega (arith, k, f.room)));
+          rest = f.rest ∙ rw (render-more xs i h, b, ← l) (over-more at win _ o (omega (arith, k, f.room)));
         }
 
   pub framing_all : (o : List ℕ) (at i : ℕ) → Framing o at i → length xs ≤ i → o ≡ over (render (spans_in xs) empty) o₀

@@ -8,15 +8,16 @@ use native.Mathlib.Nat.{le_refl}
 use native.Mathlib.Omega.{arith}
 use lib.ListN.{length, take}
 use lib.Seq.{get_or-take}
+use Rattle.chain.specs.declared.window.Window.{Window as Row}
 use Rattle.grammar.specs.Stream.{Window}
 use Rattle.grammar.specs.Fits.{AllFit}
 use Rattle.tidy.specs.Spans.{Span, has, covered}
 use Rattle.tidy.specs.InOrder.{Same, Sorted}
-use Rattle.tidy.specs.Steps.{spans_in, bounds_of, keys_of, ends_of, key_spans, joined, Rising, Ordered, Below, spanned, Inside, AllInside, Gathered, AtPlaces, Joinable, Joins}
-use Rattle.tidy.proofs.Codes.{rising_up}
+use Rattle.tidy.specs.Steps.{row_start, spans_in, bounds_of, keys_of, ends_of, key_spans, joined, Rising, Ordered, Below, spanned, Inside, AllInside, Gathered, AtPlaces, Joinable, Joins}
+use Rattle.tidy.proofs.Starts.{rising_up}
 use Rattle.tidy.proofs.Joining.{joined_spaced, joined-has, joined-below, joined-inside, joined_fewer}
 use Rattle.tidy.proofs.AnySpan.{any_span, same-any, spanned-any, holds, inside-any, any-inside, turned, reaches, ordered_any, any_ordered, below-any, any_below}
-use Rattle.tidy.proofs.Indexes.{keys_length, keys_spans, indexes_apart, all_placed}
+use Rattle.tidy.proofs.Indexes.{keys_length, keys_spans, indexes_known, indexes_apart, all_placed}
 use Rattle.tidy.proofs.Lengths.{long_within}
 
 -- ---- the spans of windows that fit
@@ -43,14 +44,14 @@ below_more : (n m : ℕ) (xs : List Span) → n ≤ m → Below n xs → Below m
 below_more n m [] h b = tt
 below_more n m (x ∷ xs) h b = (omega (arith, b.0), below_more n m xs h b.1)
 
-key_spans-length : (ends xs : List ℕ) → length (key_spans ends xs) ≡ length xs
+key_spans-length : (ends : List ℕ) (xs : List Row) → length (key_spans ends xs) ≡ length xs
 key_spans-length ends [] = refl
 key_spans-length ends (x ∷ xs) = ap suc (key_spans-length ends xs)
 
 -- ---- collected, sorted and joined
 
-module _ (size : ℕ) (ws : List Window) (n : ℕ) (xs ys ends : List ℕ) (few : n ≤ 255) (f : AllFit size ws) (long : length xs ≡ n)
-    (keys : xs ≡ keys_of 0 ws) (last : take n ends ≡ ends_of ws) (o : Sorted xs ys) where
+module _ (size : ℕ) (ws : List Window) (n : ℕ) (xs ys : List Row) (ends : List ℕ) (few : n ≤ 255) (f : AllFit size ws) (long : length xs ≡ n)
+    (keys : xs ≡ keys_of 0 ws) (last : take n ends ≡ ends_of ws) (o : Sorted row_start xs ys) where
   many : n ≡ length ws
   many = sym long ∙ ap length keys ∙ keys_length ws 0
 
@@ -69,7 +70,7 @@ module _ (size : ℕ) (ws : List Window) (n : ℕ) (xs ys ends : List ℕ) (few 
   as_bounds t = sym (same-any ends t xs ys o.same) ∙ ap (any_span t) bounds
 
   rising : Rising 0 (key_spans ends ys)
-  rising = rising_up ends ys o.up
+  rising = rising_up ends ys 0 o.up
 
   ordered : Ordered (key_spans ends ys)
   ordered = ordered_any (key_spans ends ys) (as_bounds turned ∙ any_ordered (bounds_of ws) (bounds_ordered size ws f))
@@ -109,10 +110,11 @@ module _ (size : ℕ) (ws : List Window) (n : ℕ) (xs ys ends : List ℕ) (few 
               key_spans-length ends ys,
               o.long,
             );
+        known = indexes_known ws ys (omega (arith, many)) same;
         apart = indexes_apart ws ys (omega (arith, many)) same;
       }
 
-  pub gathered-all : (m : ℕ) (ys' places : List ℕ) → Joins ys ends m ys' places
+  pub gathered-all : (m : ℕ) (ys' : List Row) (places : List ℕ) → Joins ys ends m ys' places
       → (m ≤ n) × (length ys' ≡ n) × Gathered size ws (spans_in (take m ys')) × AtPlaces places (spans_in (take m ys')) 0 ws
   gathered-all m ys' places j = (
     omega (arith, j.upto, o.long),

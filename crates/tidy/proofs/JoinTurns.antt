@@ -1,28 +1,34 @@
 -- A turn of the loop that joins windows to spans where they stand, and puts the place of each where its end stood: over lists and numbers alone.
 -- Assumes nothing.
-use Prim.Native.Nat.{ℕ, ◌+◌, ◌-◌, ◌/◌, ◌%◌, ◌≤◌, ◌<◌}
+use Prim.Native.Nat.{ℕ, ◌+◌, ◌-◌, ◌≤◌, ◌<◌, max}
 use mathlib.Core.Bool.{true, false}
 use mathlib.Core.Path.{◌≡◌, refl, sym, ap, ◌∙◌}
 use mathlib.Core.List.{List, [], ◌∷◌, ◌++◌, append_assoc}
 use native.Mathlib.Decide.{ℕ_discrete}
-use native.Mathlib.Nat.{mod-lt}
 use native.Mathlib.Omega.{arith}
 use native.Mathlib.Numerals.{add-one}
 use borrow.Author.Tests.{lt-leb, leb-false, ltb-true, ltb-false}
-use lib.Dec.{ltb, leb, lit<}
+use lib.Dec.{ltb, leb}
 use lib.ListN.{length, take, drop, get_or, set, length-set, drop_of_length-le}
 use lib.Seq.{take-suc-set, drop-cons, get_or-set_same, get_or-set_other}
 use Rattle.chain.proofs.ByCases.{by_test}
 use Rattle.chain.specs.Rules.{pick}
 use Rattle.chain.specs.Window.{width_of}
+use Rattle.chain.specs.declared.window.Window.{Window as Row}
 use Rattle.tidy.specs.Spans.{Span, span}
-use Rattle.tidy.specs.Steps.{decoded, spans_in, key_span, key_spans, join_from, joined, Rising, Ordered, Below, slot_of, Joinable, Joins}
+use Rattle.tidy.specs.Steps.{row, no_row, spans_in, key_span, key_spans, join_from, joined, Rising, Ordered, Below, slot_of, Joinable, Joins}
 use Rattle.tidy.proofs.Joining.{rising_less, join_slot}
 use Rattle.tidy.proofs.Lengths.{in_append, slot-within}
 
-pub none-joined : (xs ends : List ℕ) → length xs ≡ 0 → Joins xs ends 0 xs ends
+pub none-joined : (xs : List Row) (ends : List ℕ) → length xs ≡ 0 → Joins xs ends 0 xs ends
 none-joined [] ends h = record { upto = omega arith; long = refl; spans = refl; placed = λ p g. absurd (omega (arith, g)) }
 none-joined (x ∷ xs) ends h = absurd (omega (arith, h))
+
+pub larger : (a b : ℕ) → max a b ≡ pick (ltb a b) b a
+larger a b =
+    by_test (ltb a b)
+    (λ e. let h = ltb-true a b e in rw e (omega arith))
+    (λ e. let h = ltb-false a b e in rw e (omega arith))
 
 later : (a b : ℕ) → (a ≤ pick (ltb a b) b a) × (b ≤ pick (ltb a b) b a)
 later a b =
@@ -30,10 +36,7 @@ later a b =
     (λ e. let h = ltb-true a b e in rw e (omega arith, omega arith))
     (λ e. let h = ltb-false a b e in rw e (omega arith, omega arith))
 
-pub index_less : (x : ℕ) → x % 256 < 256
-index_less x = mod-lt x (lit< {m = 0} {n = 256} tt)
-
-module _ (xs₀ ends₀ : List ℕ) where
+module _ (xs₀ : List Row) (ends₀ : List ℕ) where
   -- all spans; those of the windows from i on; the index of the window at p
   abbrev all : List Span
   all = joined (key_spans ends₀ xs₀)
@@ -42,11 +45,11 @@ module _ (xs₀ ends₀ : List ℕ) where
   left i = key_spans ends₀ (drop i xs₀)
 
   abbrev index : ℕ → ℕ
-  index p = get_or xs₀ p 0 % 256
+  index p = (get_or xs₀ p no_row).end
 
   -- k spans are done, the one from start to end may still grow and has its first cell at `at`, the windows from i on are to come: their ends still
   -- stand, those before have their places, all but the first
-  pub record Turning (xs ends : List ℕ) (start end at k i : ℕ) : Type 0 where
+  pub record Turning (xs : List Row) (ends : List ℕ) (start end at k i : ℕ) : Type 0 where
     pub behind : k < i
     pub upto : i ≤ length xs₀
     pub long : length xs ≡ length xs₀
@@ -55,21 +58,21 @@ module _ (xs₀ ends₀ : List ℕ) where
     pub rising : Rising start (left i)
     pub ordered : Ordered (left i)
     pub below : Below 65536 (left i)
-    pub keys : (p : ℕ) → i ≤ p → get_or xs p 0 ≡ get_or xs₀ p 0
+    pub keys : (p : ℕ) → i ≤ p → get_or xs p no_row ≡ get_or xs₀ p no_row
     pub kept : (p : ℕ) → i ≤ p → p < length xs₀ → get_or ends (index p) 0 ≡ get_or ends₀ (index p) 0
-    pub placed : (p : ℕ) → 0 < p → p < i → get_or ends (index p) 0 ≡ slot_of all (get_or xs₀ p 0 / 256)
+    pub placed : (p : ℕ) → 0 < p → p < i → get_or ends (index p) 0 ≡ slot_of all (get_or xs₀ p no_row).start
     pub rest : all ≡ spans_in (take k xs) ++ join_from (span start end) (left i)
     pub ahead : (a : ℕ) → start ≤ a → slot_of all a + 5 ≡ at + slot_of (join_from (span start end) (left i)) a
 
-  more : (i : ℕ) → i < length xs₀ → left i ≡ key_span ends₀ (get_or xs₀ i 0) ∷ left (i + 1)
-  more i h = rw (drop-cons xs₀ i 0 h, add-one i)
+  more : (i : ℕ) → i < length xs₀ → left i ≡ key_span ends₀ (get_or xs₀ i no_row) ∷ left (i + 1)
+  more i h = rw (drop-cons xs₀ i no_row h, add-one i)
 
   module _ (q : Joinable xs₀ ends₀) where
     -- ---- the first window
 
     module _ (h : 0 < length xs₀) where
-      abbrev x₀ : ℕ
-      x₀ = get_or xs₀ 0 0
+      abbrev x₀ : Row
+      x₀ = get_or xs₀ 0 no_row
 
       all_is : all ≡ join_from (key_span ends₀ x₀) (left 1)
       all_is = ap joined (more 0 h)
@@ -77,15 +80,10 @@ module _ (xs₀ ends₀ : List ℕ) where
       first_ordered : Ordered (key_span ends₀ x₀ ∷ left 1)
       first_ordered = rw (more 0 h) at q.ordered
 
-      first_place : 5 ≡ slot_of all (x₀ / 256)
-      first_place = rw all_is (omega (arith, join_slot (left 1) (key_span ends₀ x₀) (x₀ / 256) first_ordered.0))
+      first_place : 5 ≡ slot_of all x₀.start
+      first_place = rw all_is (omega (arith, join_slot (left 1) (key_span ends₀ x₀) x₀.start first_ordered.0))
 
-      pub first-start : x₀ / 256 < 65536
-      first-start =
-          let b : Below 65536 (key_span ends₀ x₀ ∷ left 1) = rw (more 0 h) at q.below in
-          omega (arith, first_ordered.0, b.0)
-
-      pub turning_none : Turning xs₀ ends₀ (x₀ / 256) (get_or ends₀ (x₀ % 256) 0) 5 0 1
+      pub turning_none : Turning xs₀ ends₀ x₀.start (get_or ends₀ x₀.end 0) 5 0 1
       turning_none =
           let r : Rising 0 (key_span ends₀ x₀ ∷ left 1) = rw (more 0 h) at q.rising in
           let b : Below 65536 (key_span ends₀ x₀ ∷ left 1) = rw (more 0 h) at q.below in
@@ -107,19 +105,22 @@ module _ (xs₀ ends₀ : List ℕ) where
 
     -- ---- the next one
 
-    module _ (xs ends : List ℕ) (start end at k i : ℕ) (t : Turning xs ends start end at k i) where
+    module _ (xs : List Row) (ends : List ℕ) (start end at k i : ℕ) (t : Turning xs ends start end at k i) where
       -- the place of a span is a number of two bytes
       pub turning_at : at ≤ 65535
       turning_at = omega (arith, t.ahead start (omega arith), join_slot (left i) (span start end) start t.order, slot-within all start, q.short)
 
-      module _ (h : i < length xs₀) (x e : ℕ) (x-read : x ≡ get_or xs i 0) (e-read : e ≡ get_or ends (x % 256) 0) where
+      module _ (h : i < length xs₀) (x : Row) (e : ℕ) (x-read : x ≡ get_or xs i no_row) (e-read : e ≡ get_or ends x.end 0) where
         abbrev b : ℕ
-        b = x / 256
+        b = x.start
 
-        x_is : x ≡ get_or xs₀ i 0
+        x_is : x ≡ get_or xs₀ i no_row
         x_is = x-read ∙ t.keys i (omega arith)
 
-        e_is : e ≡ get_or ends₀ (x % 256) 0
+        index_is : x.end < 256
+        index_is = rw x_is (q.known i h)
+
+        e_is : e ≡ get_or ends₀ x.end 0
         e_is = e-read ∙ rw x_is (t.kept i (omega arith) h)
 
         head : left i ≡ span b e ∷ left (i + 1)
@@ -141,19 +142,24 @@ module _ (xs₀ ends₀ : List ℕ) where
         next-from = risen.0
 
         -- a number over the end of this window leaves the others
-        kept_more : (v p : ℕ) → i + 1 ≤ p → p < length xs₀ → get_or (set ends (x % 256) v) (index p) 0 ≡ get_or ends₀ (index p) 0
+        kept_more : (v p : ℕ) → i + 1 ≤ p → p < length xs₀ → get_or (set ends x.end v) (index p) 0 ≡ get_or ends₀ (index p) 0
         kept_more v p g l =
-            get_or-set_other ends (x % 256) (index p) v 0 (λ z. q.apart i p (omega arith) l (sym (z ∙ ap (λ (y : ℕ). y % 256) x_is)))
+            get_or-set_other ends x.end (index p) v 0 (λ z. q.apart i p (omega arith) l (sym (z ∙ ap (λ (y : Row). y.end) x_is)))
             ∙ t.kept p (omega arith) l
 
         placed_by : (v p : ℕ) → v ≡ slot_of all b → 0 < p → p < i + 1 → Dec (p ≡ i)
-            → get_or (set ends (x % 256) v) (index p) 0 ≡ slot_of all (get_or xs₀ p 0 / 256)
-        placed_by v p d f g (yes z) = rw (z, ← x_is, get_or-set_same ends (x % 256) v 0 (omega (arith, index_less x, t.many))) d
+            → get_or (set ends x.end v) (index p) 0 ≡ slot_of all (get_or xs₀ p no_row).start
+        placed_by v p d f g (yes z) =
+            rw z
+            (ap (λ (y : Row). get_or (set ends x.end v) y.end 0) (sym x_is)
+            ∙ get_or-set_same ends x.end v 0 (omega (arith, index_is, t.many))
+            ∙ d
+            ∙ ap (λ (y : Row). slot_of all y.start) x_is)
         placed_by v p d f g (no z) =
-            get_or-set_other ends (x % 256) (index p) v 0 (λ y. q.apart p i (omega arith) h (y ∙ ap (λ (w : ℕ). w % 256) x_is))
+            get_or-set_other ends x.end (index p) v 0 (λ y. q.apart p i (omega arith) h (y ∙ ap (λ (w : Row). w.end) x_is))
             ∙ t.placed p f (omega arith)
 
-        placed-more : (v p : ℕ) → v ≡ slot_of all b → 0 < p → p < i + 1 → get_or (set ends (x % 256) v) (index p) 0 ≡ slot_of all (get_or xs₀ p 0 / 256)
+        placed-more : (v p : ℕ) → v ≡ slot_of all b → 0 < p → p < i + 1 → get_or (set ends x.end v) (index p) 0 ≡ slot_of all (get_or xs₀ p no_row).start
         placed-more v p d f g = placed_by v p d f g (ℕ_discrete p i)
 
         module _ (y : leb b (end + 1) ≡ true) (n : ℕ) (n-is : n ≡ pick (ltb end e) e end) where
@@ -170,13 +176,13 @@ module _ (xs₀ ends₀ : List ℕ) where
           pub touch_place : at + (b - start) < 65536
           touch_place = omega (arith, place, slot-within all b, q.short)
 
-          pub turning_touch : Turning xs (set ends (x % 256) (at + (b - start))) start n at k (i + 1)
+          pub turning_touch : Turning xs (set ends x.end (at + (b - start))) start n at k (i + 1)
           turning_touch =
               record {
                 behind = omega (arith, t.behind);
                 upto = omega arith;
                 long = t.long;
-                many = length-set ends (x % 256) (at + (b - start)) ∙ t.many;
+                many = length-set ends x.end (at + (b - start)) ∙ t.many;
                 order = rw n-is (omega (arith, t.order, (later end e).0));
                 rising = rising_less b start (left (i + 1)) next-from risen.1;
                 ordered = in_order.1;
@@ -209,22 +215,22 @@ module _ (xs₀ ends₀ : List ℕ) where
           pub apart_place : at + (5 + n) < 65536
           apart_place = omega (arith, place_next, slot-within all b, q.short)
 
-          pub turning_apart : (c : ℕ) → decoded c ≡ span start end → Turning (set xs k c) (set ends (x % 256) (at + (5 + n))) b e (at + (5 + n)) (k + 1) (i + 1)
-          turning_apart c d =
+          pub turning_apart : Turning (set xs k (row start end)) (set ends x.end (at + (5 + n))) b e (at + (5 + n)) (k + 1) (i + 1)
+          turning_apart =
               record {
                 behind = omega (arith, t.behind);
                 upto = omega arith;
-                long = length-set xs k c ∙ t.long;
-                many = length-set ends (x % 256) (at + (5 + n)) ∙ t.many;
+                long = length-set xs k (row start end) ∙ t.long;
+                many = length-set ends x.end (at + (5 + n)) ∙ t.many;
                 order = in_order.0;
                 rising = risen.1;
                 ordered = in_order.1;
                 below = under.1;
-                keys = λ p g. get_or-set_other xs k p c 0 (λ z. omega (arith, t.behind)) ∙ t.keys p (omega arith);
+                keys = λ p g. get_or-set_other xs k p (row start end) no_row (λ z. omega (arith, t.behind)) ∙ t.keys p (omega arith);
                 kept = kept_more (at + (5 + n));
                 placed = λ p f g. placed-more (at + (5 + n)) p place_next f g;
                 rest = t.rest
-                    ∙ rw (parted, add-one k, take-suc-set xs k c (omega (arith, t.behind, t.long)), in_append (take k xs) (c ∷ []), d)
+                    ∙ rw (parted, add-one k, take-suc-set xs k (row start end) (omega (arith, t.behind, t.long)), in_append (take k xs) (row start end ∷ []))
                     (sym (append_assoc (spans_in (take k xs)) (span start end ∷ []) _));
                 ahead = next-ahead;
               }
@@ -233,19 +239,19 @@ module _ (xs₀ ends₀ : List ℕ) where
       some : 0 < length xs₀
       some = omega (arith, t.behind, t.upto)
 
-      last_placed : (p : ℕ) → length xs₀ ≤ i → p < length xs₀ → Dec (p ≡ 0) → get_or (set ends (index 0) 5) (index p) 0 ≡ slot_of all (get_or xs₀ p 0 / 256)
-      last_placed p h g (yes z) = rw (z, get_or-set_same ends (index 0) 5 0 (omega (arith, index_less (get_or xs₀ 0 0), t.many))) (first_place some)
+      last_placed : (p : ℕ) → length xs₀ ≤ i → p < length xs₀ → Dec (p ≡ 0) → get_or (set ends (index 0) 5) (index p) 0 ≡ slot_of all (get_or xs₀ p no_row).start
+      last_placed p h g (yes z) = rw (z, get_or-set_same ends (index 0) 5 0 (omega (arith, q.known 0 some, t.many))) (first_place some)
       last_placed p h g (no z) =
           get_or-set_other ends (index 0) (index p) 5 0 (λ y. q.apart 0 p (omega arith) g (sym y)) ∙ t.placed p (omega arith) (omega arith)
 
-      pub turning_all : (c : ℕ) → length xs₀ ≤ i → decoded c ≡ span start end → Joins xs₀ ends₀ (k + 1) (set xs k c) (set ends (index 0) 5)
+      pub turning_all : length xs₀ ≤ i → Joins xs₀ ends₀ (k + 1) (set xs k (row start end)) (set ends (index 0) 5)
       unfolding join_from
-      turning_all c h d =
+      turning_all h =
           record {
             upto = omega (arith, t.behind, t.upto);
-            long = length-set xs k c ∙ t.long;
+            long = length-set xs k (row start end) ∙ t.long;
             spans =
-                rw (add-one k, take-suc-set xs k c (omega (arith, t.behind, t.upto, t.long)), in_append (take k xs) (c ∷ []), d)
+                rw (add-one k, take-suc-set xs k (row start end) (omega (arith, t.behind, t.upto, t.long)), in_append (take k xs) (row start end ∷ []))
                 (sym (t.rest ∙ rw (drop_of_length-le xs₀ {i = i} h)));
             placed = λ p g. last_placed p h g (ℕ_discrete p 0);
           }

@@ -10,30 +10,31 @@ use lib.ListN.{length, drop, get_or, drop_of_length-le, length-append}
 use lib.Seq.{drop-cons}
 use Rattle.chain.proofs.ByCases.{by_test}
 use Rattle.chain.specs.Window.{width_of}
+use Rattle.chain.specs.declared.window.Window.{Window as Row}
 use Rattle.tidy.specs.Spans.{Span}
-use Rattle.tidy.specs.Steps.{decoded, spans_in, Spaced, Below, render, long_of, slot_of}
+use Rattle.tidy.specs.Steps.{no_row, row_span, spans_in, Spaced, Below, render, long_of, slot_of}
 use Rattle.tidy.proofs.Values.{values_length}
 
-pub in_cons : (xs : List ℕ) (i : ℕ) → i < length xs → spans_in (drop i xs) ≡ decoded (get_or xs i 0) ∷ spans_in (drop (i + 1) xs)
-in_cons xs i h = rw (drop-cons xs i 0 h, add-one i)
+pub in_cons : (xs : List Row) (i : ℕ) → i < length xs → spans_in (drop i xs) ≡ row_span (get_or xs i no_row) ∷ spans_in (drop (i + 1) xs)
+in_cons xs i h = rw (drop-cons xs i no_row h, add-one i)
 
-pub in_none : (xs : List ℕ) (i : ℕ) → length xs ≤ i → spans_in (drop i xs) ≡ []
+pub in_none : (xs : List Row) (i : ℕ) → length xs ≤ i → spans_in (drop i xs) ≡ []
 in_none xs i h = rw (drop_of_length-le xs {i = i} h)
 
-pub in_append : (a b : List ℕ) → spans_in (a ++ b) ≡ spans_in a ++ spans_in b
+pub in_append : (a b : List Row) → spans_in (a ++ b) ≡ spans_in a ++ spans_in b
 in_append [] b = refl
-in_append (x ∷ a) b = ap (λ (l : List Span). decoded x ∷ l) (in_append a b)
+in_append (x ∷ a) b = ap (λ (l : List Span). row_span x ∷ l) (in_append a b)
 
-pub in_length : (xs : List ℕ) → length (spans_in xs) ≡ length xs
+pub in_length : (xs : List Row) → length (spans_in xs) ≡ length xs
 in_length [] = refl
 in_length (x ∷ xs) = ap suc (in_length xs)
 
-pub long_more : (xs : List ℕ) (i : ℕ) → i < length xs
-    → long_of (spans_in (drop i xs)) ≡ 5 + width_of (decoded (get_or xs i 0)).start (decoded (get_or xs i 0)).end + long_of (spans_in (drop (i + 1) xs))
+pub long_more : (xs : List Row) (i : ℕ) → i < length xs
+    → long_of (spans_in (drop i xs)) ≡ 5 + width_of (get_or xs i no_row).start (get_or xs i no_row).end + long_of (spans_in (drop (i + 1) xs))
 unfolding long_of
 long_more xs i h = rw (in_cons xs i h)
 
-pub long_none : (xs : List ℕ) (i : ℕ) → length xs ≤ i → long_of (spans_in (drop i xs)) ≡ 0
+pub long_none : (xs : List Row) (i : ℕ) → length xs ≤ i → long_of (spans_in (drop i xs)) ≡ 0
 unfolding long_of
 long_none xs i h = rw (in_none xs i h)
 

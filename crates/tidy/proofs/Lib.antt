@@ -1,7 +1,7 @@
 pub mod HasCell
 pub mod Values
 pub mod Canon
-pub mod Codes
+pub mod Starts
 pub mod Totals
 pub mod Order
 pub mod Sinking

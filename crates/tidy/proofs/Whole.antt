@@ -17,6 +17,7 @@ use Rattle.chain.proofs.Over.{copied, then_over, then_byte, length_over}
 use Rattle.tidy.specs.Spans.{Span, covered, spans_of, values_of}
 use Rattle.reader.specs.Given.{windows_at, given_of}
 use Rattle.tidy.specs.Tidy.{last_byte, window_over, tidy_windows, tidied}
+use Rattle.chain.specs.declared.window.Window.{Window as Row}
 use Rattle.tidy.specs.Steps.{spans_in, Gathered, render, long_of, AtPlaces, paint_all, laid_out, Ready}
 use Rattle.tidy.proofs.Canon.{spans_are}
 use Rattle.reader.proofs.Given.{windows_fit}
@@ -76,7 +77,7 @@ painted size s n xs places six o o₁ ys h g a l e y =
     simp (length-append, render-length xs (last_byte ws), render-length xs (λ (i : ℕ). 0)) in
     rw (none, append-nil, front, p, m) (sym (append_assoc six (render xs (last_byte ws)) t))
 
-module _ (size : ℕ) (s : List ℕ) (n : ℕ) (xs places o : List ℕ) (end : ℕ) (q : Ready size s n (spans_in xs) places end (length o)) where
+module _ (size : ℕ) (s : List ℕ) (n : ℕ) (xs : List Row) (places o : List ℕ) (end : ℕ) (q : Ready size s n (spans_in xs) places end (length o)) where
   abbrev six : List ℕ
   six = preamble ∷ get_or s 1 0 ∷ get_or s 2 0 ∷ get_or s 3 0 ∷ get_or s 4 0 ∷ (no_windows - length xs) ∷ []
 

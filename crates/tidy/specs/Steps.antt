@@ -1,10 +1,11 @@
--- For the contracts of private helpers, and for laws; no promise cites it. Windows as the code keeps them, by start and index, put in order and joined to
--- spans, one number each, start * 65536 + end; these framed in the output, and the windows' data laid over the frames. Assumes nothing.
-use Rattle.std.specs.Prelude.{ℕ, suc, ◌+◌, ◌-◌, ◌*◌, ◌/◌, ◌%◌, ◌≤◌, ◌<◌, Bool, false, ◌||◌, ◌⊎◌, ◌≢◌, ◌≡◌, List, [], ◌∷◌, ◌++◌, ltb, leb, length, get_or, take}
+-- For the contracts of private helpers, and for laws; no promise cites it. Windows as the code keeps them in a table, by start and index, put in order
+-- and joined to spans, by start and end; these framed in the output, and the windows' data laid over the frames. Assumes nothing.
+use Rattle.std.specs.Prelude.{ℕ, suc, ◌+◌, ◌-◌, ◌≤◌, ◌<◌, Bool, false, ◌||◌, ◌⊎◌, ◌≢◌, ◌≡◌, List, [], ◌∷◌, ◌++◌, ltb, leb, length, get_or, take}
 use Rattle.std.proofs.lemmas.List.Edits.{sets}
 use Rattle.chain.specs.Paper.{preamble, postamble, no_windows, done, too_short}
 use Rattle.chain.specs.Rules.{pick}
 use Rattle.chain.specs.Window.{width_of, high_byte, low_byte}
+use Rattle.chain.specs.declared.window.Window.{Window as Row}
 use Rattle.grammar.specs.Stream.{Window}
 use Rattle.grammar.specs.Tables.{null_byte}
 use Rattle.reader.specs.Windows.{windows_stop}
@@ -12,14 +13,25 @@ use Rattle.reader.specs.Stream.{head_length, count_at}
 use Rattle.tidy.specs.Spans.{Span, span, has, covered, values_of}
 use Rattle.reader.specs.Given.{windows_at}
 
--- ---- a table of spans
+-- ---- a table of windows and spans
 
-unfoldable pub decoded : ℕ → Span
-decoded x = span (x / 65536) (x % 65536)
+-- a row of it: of a span the start and the end, of a window that is not joined yet the start and, in the end's place, its index
+abbrev pub row : ℕ → ℕ → Row
+row a b = record { start = a; end = b }
 
-abbrev pub spans_in : List ℕ → List Span
+abbrev pub row_start : Row → ℕ
+row_start x = x.start
+
+-- what is read beyond its end
+abbrev pub no_row : Row
+no_row = row 0 0
+
+abbrev pub row_span : Row → Span
+row_span x = span x.start x.end
+
+abbrev pub spans_in : List Row → List Span
 spans_in [] = []
-spans_in (x ∷ xs) = decoded x ∷ spans_in xs
+spans_in (x ∷ xs) = row_span x ∷ spans_in xs
 
 -- the spans of windows, in the stream's order
 abbrev pub bounds_of : List Window → List Span
@@ -28,20 +40,19 @@ bounds_of (w ∷ ws) = span w.start w.end ∷ bounds_of ws
 
 -- ---- windows by start and index
 
--- the window at index i is the number start * 256 + i
-abbrev pub keys_of : ℕ → List Window → List ℕ
+abbrev pub keys_of : ℕ → List Window → List Row
 keys_of i [] = []
-keys_of i (w ∷ ws) = (w.start * 256 + i) ∷ keys_of (suc i) ws
+keys_of i (w ∷ ws) = row w.start i ∷ keys_of (suc i) ws
 
 abbrev pub ends_of : List Window → List ℕ
 ends_of [] = []
 ends_of (w ∷ ws) = w.end ∷ ends_of ws
 
 -- its span, in a table of the windows' ends
-abbrev pub key_span : List ℕ → ℕ → Span
-key_span ends x = span (x / 256) (get_or ends (x % 256) 0)
+abbrev pub key_span : List ℕ → Row → Span
+key_span ends x = span x.start (get_or ends x.end 0)
 
-abbrev pub key_spans : List ℕ → List ℕ → List Span
+abbrev pub key_spans : List ℕ → List Row → List Span
 key_spans ends [] = []
 key_spans ends (x ∷ xs) = key_span ends x ∷ key_spans ends xs
 
@@ -125,20 +136,21 @@ AtPlaces places xs i [] = Unit {0}
 AtPlaces places xs i (w ∷ ws) = (get_or places i 0 ≡ slot_of xs w.start) × AtPlaces places xs (suc i) ws
 
 -- what is needed to join windows that stand in order: no two with the same index, since the place of one takes the place of its end
-pub record Joinable (xs ends : List ℕ) : Type 0 where
+pub record Joinable (xs : List Row) (ends : List ℕ) : Type 0 where
   pub table : length ends ≡ 256
   pub rising : Rising 0 (key_spans ends xs)
   pub ordered : Ordered (key_spans ends xs)
   pub below : Below 65536 (key_spans ends xs)
   pub short : long_of (joined (key_spans ends xs)) ≤ 65535
-  pub apart : (p q : ℕ) → p < q → q < length xs → get_or xs p 0 % 256 ≢ get_or xs q 0 % 256
+  pub known : (p : ℕ) → p < length xs → (get_or xs p no_row).end < 256
+  pub apart : (p q : ℕ) → p < q → q < length xs → (get_or xs p no_row).end ≢ (get_or xs q no_row).end
 
 -- m spans stand at the front then, and in the other table each window's place
-pub record Joins (xs ends : List ℕ) (m : ℕ) (xs' places : List ℕ) : Type 0 where
+pub record Joins (xs : List Row) (ends : List ℕ) (m : ℕ) (xs' : List Row) (places : List ℕ) : Type 0 where
   pub upto : m ≤ length xs
   pub long : length xs' ≡ length xs
   pub spans : spans_in (take m xs') ≡ joined (key_spans ends xs)
-  pub placed : (q : ℕ) → q < length xs → get_or places (get_or xs q 0 % 256) 0 ≡ slot_of (joined (key_spans ends xs)) (get_or xs q 0 / 256)
+  pub placed : (q : ℕ) → q < length xs → get_or places (get_or xs q no_row).end 0 ≡ slot_of (joined (key_spans ends xs)) (get_or xs q no_row).start
 
 -- the windows' data laid over an output, one after another, each from its place; the first of them at index i
 unfoldable pub paint_all : List ℕ → ℕ → List Window → List ℕ → List ℕ

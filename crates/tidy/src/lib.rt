@@ -2,67 +2,56 @@
 // is laid over them in the stream's order, so that the last one stays. Nothing as large as a device is kept.
 #![tactic(auto)]
 
+mod given;
 mod lay;
 mod sort;
 mod spans;
 
-ghost use Rattle.std.specs.Prelude.{length};
-ghost use Rattle.chain.specs.Output.{Writes};
-ghost use Rattle.tidy.specs.Tidy.{tidied, Tidies};
-ghost use Rattle.tidy.specs.Steps.{ReadWhole, room_number};
+ghost use Rattle.std.specs.Prelude.{◌≡◌, length, IfOk, OnOk, OnErr};
+ghost use Rattle.chain.specs.Kinds.{size_of};
+ghost use Rattle.chain.specs.Output.{over};
+ghost use Rattle.chain.specs.Refusal.{answered};
+ghost use Rattle.tidy.specs.Tidy.{tidied, tidy_number, Tidies};
+ghost use Rattle.tidy.specs.Steps.{room_number};
 
 use chain::Written;
-use chain::kinds::size_of;
-use chain::paper::*;
-use reader::stream::read_stream;
+use chain::refusal::Refusal;
+use chain::window::Window;
+use given::Given;
 
-// The tidied stream of one that was read whole, where it has room.
-fn write(
-    size: u16,
-    s: &[u8],
-    n: u8,
-    table: &mut [u32],
-    places: &mut [u16],
-    out: &mut [u8],
-) -> Written
-    requires { ReadWhole size s.now n (length table.old) (length places.old) }
-    ensures { Writes (room_number (length (tidied size s.now)) (length out.old)) (tidied size s.now) out.old result out.new }
+// The tidied stream of a given one, where it has room.
+fn write(given: Given<'_>, out: &mut [u8]) -> Result<usize, Refusal>
+    ensures number { answered result ≡ room_number (length (tidied given.entry.size given.entry.s.now)) (length out.old) }
+    ensures done { OnOk result (out.new ≡ over (tidied given.entry.size given.entry.s.now) out.old) }
+    ensures length { IfOk result (λ n. n ≡ length (tidied given.entry.size given.entry.s.now)) }
+    ensures refused { OnErr result (out.new ≡ out.old) }
 {
-    let m = spans::gather(size, s, &mut table[..n as usize], places);
-    let end = 6 + spans::long(&table[..m]);
+    let mut table = [Window { start: 0, end: 0 }; 255];
+    let mut places = [0; 256];
+    let m = spans::gather(given, &mut table[..usize::from(given.n)], &mut places);
+    let spans = &table[..m];
+    let end = 6 + spans::long(spans);
     if out.len() <= end {
-        return Written {
-            number: TOO_SHORT,
-            length: 0,
-        };
+        return Err(Refusal::TooShort);
     }
-    lay::stream(size, s, n, &table[..m], places, end, out);
-    Written {
-        number: DONE,
-        length: end + 1,
-    }
+    lay::stream(given, spans, &places, end, out);
+    Ok(end + 1)
+}
+
+// The same as `tidy` with the refusal itself.
+fn try_tidy(kind: u8, s: &[u8], out: &mut [u8]) -> Result<usize, Refusal>
+    ensures number { answered result ≡ tidy_number kind s.now (length out.old) }
+    ensures done { OnOk result (out.new ≡ over (tidied (size_of kind) s.now) out.old) }
+    ensures length { IfOk result (λ n. n ≡ length (tidied (size_of kind) s.now)) }
+    ensures refused { OnErr result (out.new ≡ out.old) }
+{
+    let given = Given::read(kind, s)?;
+    write(given, out)
 }
 
 // Tidies a stream for one device; what follows its postamble is not looked at.
 pub fn tidy(kind: u8, s: &[u8], out: &mut [u8]) -> Written
     ensures { Tidies kind s.now out.old result out.new }
 {
-    let size = size_of(kind);
-    if size == 0 {
-        return Written {
-            number: BAD_CHAIN,
-            length: 0,
-        };
-    }
-    match read_stream(size, FIRST_MODE, s) {
-        Err(e) => Written {
-            number: e.refusal.number(),
-            length: 0,
-        },
-        Ok(_) => {
-            let mut table = [0u32; 255];
-            let mut places = [0u16; 256];
-            write(size, s, 255 - s[5], &mut table, &mut places, out)
-        }
-    }
+    Written::from(try_tidy(kind, s, out))
 }

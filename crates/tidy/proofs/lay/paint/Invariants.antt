@@ -8,8 +8,8 @@ abbrev pub invariant-loop-i : goal.invariant-loop-i
 invariant-loop-i l = record {
   can : (goal.iterator-loop-i).can_next l.i-iterator;
   ends : (goal.iterator-loop-i).is_finite l.i-iterator;
-  same_size : (enumerate_source l.i-iterator).size ≡ l.size;
-  same_stream : (enumerate_source l.i-iterator).s.now ≡ l.s;
-  left : (enumerate_source l.i-iterator).left + enumerate_count l.i-iterator ≡ l.n;
-  laying : Laying l.size l.s l.n l.places l.initial.out l.out (enumerate_source l.i-iterator).at (enumerate_count l.i-iterator);
+  same_size : (enumerate_source l.i-iterator).size ≡ l.fn.given.size;
+  same_stream : (enumerate_source l.i-iterator).s.now ≡ l.fn.given.s.now;
+  left : (enumerate_source l.i-iterator).left + enumerate_count l.i-iterator ≡ l.fn.given.n;
+  laying : Laying l.fn.given.size l.fn.given.s.now l.fn.given.n l.places l.initial.out l.out (enumerate_source l.i-iterator).at (enumerate_count l.i-iterator);
 }

@@ -1,25 +1,17 @@
-use Prim.Native.Nat.{◌+◌}
-use mathlib.Core.Path.{◌≡◌}
-use native.Mathlib.Omega.{arith}
-use lib.ListN.{drop}
+use Rattle.std.proofs.Common.{rules, ◌≡◌, ◌+◌, drop, arith}
 use Rattle.tidy.specs.Steps.{spans_in, long_of}
 use Rattle.tidy.proofs.Lengths.{long_more, long_none}
-use borrow.Author.Rules.{rules}
 use Rattle.tidy.proofs.spans.long.Goals as goal
 
-pub loop-i-preserved : goal.loop-i-preserved
-loop-i-preserved c =
-    let l = c.loop-i in
-    let m = long_more c.args.xs.now l.i (search rules) in
-    let w = c.width.ensures.0 in
-    let k = c.width.ensures.1 in
-    let a = c.start_of.ensures in
-    let e = c.end_of.ensures in
-    let y : long_of (spans_in (drop l.i c.args.xs.now)) ≡ 5 + c.width.result + long_of (spans_in (drop (l.i + 1) c.args.xs.now)) = rw (w, a, e) m in
-    (omega arith, omega arith, omega (arith, l.invariant.2))
+pub loop-span-preserved : goal.loop-span-preserved
+loop-span-preserved c =
+    let l = c.loop-span in
+    let w = c.width.ensures in
+    let m = long_more c.args.spans.now l.span-index (search rules) in
+    (omega arith, omega (arith, w.upper_bound), omega (arith, l.invariant.2, m, w.value))
 
 pub returns : goal.returns
 returns c =
-    let l = c.loop-i in
-    let m = long_none c.args.xs.now l.i (search rules) in
+    let l = c.loop-span in
+    let m = long_none c.args.spans.now l.span-index (search rules) in
     (omega (arith, l.invariant.2), omega (arith, c.requires))

@@ -1,11 +1,7 @@
-use Prim.Native.Nat.{◌+◌, ◌-◌, ◌*◌, ◌≤◌}
-use mathlib.Core.Path.{◌≡◌}
-use lib.ListN.{length, drop}
+use Rattle.std.proofs.Common.{◌≡◌, ◌+◌, ◌*◌, ◌≤◌, length, drop}
 use Rattle.tidy.specs.Steps.{spans_in, long_of}
 use Rattle.tidy.proofs.spans.long.Given as goal
 
-abbrev pub invariant-loop-i : goal.invariant-loop-i
-invariant-loop-i l = (l.i ≤ length l.xs) × (l.sum ≤ 65541 * l.i) × (long_of (spans_in l.xs) ≡ l.sum + long_of (spans_in (drop l.i l.xs)))
-
-abbrev pub decreases-loop-i : goal.decreases-loop-i
-decreases-loop-i l = length l.xs - l.i
+abbrev pub invariant-loop-span : goal.invariant-loop-span
+invariant-loop-span l =
+    (l.span-index ≤ length l.spans) × (l.sum ≤ 65541 * l.span-index) × (long_of (spans_in l.spans) ≡ l.sum + long_of (spans_in (drop l.span-index l.spans)))
