@@ -54,13 +54,7 @@ fn paint(given: Given<'_>, places: &[u16], out: &mut [u8])
 }
 
 // The whole stream of these spans, which are those of the given windows; end is where the postamble goes.
-pub(crate) fn stream(
-    given: Given<'_>,
-    spans: &[Window],
-    places: &[u16],
-    end: usize,
-    out: &mut [u8],
-)
+pub(crate) fn stream(given: Given<'_>, spans: &[Window], places: &[u16], end: usize, out: &mut [u8])
     requires { Ready given.size given.s.now given.n (spans_in spans.now) places.now end (length out.old) }
     ensures { out.new ≡ over (laid_out given.entry.s.now (spans_in spans.now)
         (last_byte (windows_at given.entry.size given.entry.s.now given.entry.n head_length))) out.old }

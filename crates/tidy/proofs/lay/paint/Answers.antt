@@ -1,4 +1,4 @@
-use Rattle.std.proofs.Common.{◌∙◌, refl, inl, arith}
+use Rattle.std.proofs.Common.{◌∙◌, inl, arith}
 use Rattle.reader.specs.Windows.{whole_of}
 use Rattle.tidy.proofs.Laying.{laying_none, laying_read, laying_more, laying_all}
 use Rattle.tidy.proofs.lay.paint.Goals as goal

@@ -1,4 +1,4 @@
-use Rattle.std.proofs.Common.{◌∙◌, refl, sym, inl, arith}
+use Rattle.std.proofs.Common.{◌∙◌, sym, inl, arith}
 use Rattle.reader.specs.Windows.{whole_of}
 use Rattle.tidy.proofs.Collecting.{collecting_none, collecting_more, collecting_all}
 use Rattle.tidy.proofs.spans.collect.Goals as goal

@@ -1,7 +1,6 @@
-use Rattle.std.proofs.Common.{rules, ◌≡◌, ◌∙◌, refl, sym, arith, get_or}
-use lib.ListN.{length-set}
+use Rattle.std.proofs.Common.{rules, ◌∙◌, refl, sym, arith, get_or}
 use Rattle.tidy.specs.Steps.{no_row}
-use Rattle.tidy.proofs.JoinTurns.{none-joined, larger, turning_none, turning_at, next_start, next-from, touch_place, turning_touch, apart_place, turning_apart, turning_all}
+use Rattle.tidy.proofs.JoinTurns.{none-joined, larger, turning_none, turning_at, touch_place, turning_touch, apart_place, turning_apart, turning_all}
 use Rattle.tidy.proofs.spans.join.Goals as goal
 
 pub returns-then-n-eq0 : goal.returns-then-n-eq0

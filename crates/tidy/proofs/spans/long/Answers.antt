@@ -1,5 +1,4 @@
-use Rattle.std.proofs.Common.{rules, ◌≡◌, ◌+◌, drop, arith}
-use Rattle.tidy.specs.Steps.{spans_in, long_of}
+use Rattle.std.proofs.Common.{rules, arith}
 use Rattle.tidy.proofs.Lengths.{long_more, long_none}
 use Rattle.tidy.proofs.spans.long.Goals as goal
 
