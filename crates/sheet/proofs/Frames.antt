@@ -1,10 +1,11 @@
 -- Bytes of a write that store nothing: one byte, and a window's null byte, start and end at once. Assumes nothing.
-use Prim.Native.Nat.{ℕ, zero, suc, ◌+◌, ◌-◌, ◌*◌, ◌<◌, ◌≤◌}
+use Prim.Native.Nat.{ℕ, zero, suc, ◌+◌, ◌-◌, ◌*◌, ◌/◌, ◌<◌, ◌≤◌}
 use mathlib.Core.Bool.{true}
 use mathlib.Core.Logic.{◌≢◌}
 use mathlib.Core.Path.{◌≡◌, refl, sym, ap, subst, ◌∙◌}
 use mathlib.Core.List.{List, [], ◌∷◌, ◌++◌}
 use native.Mathlib.Omega.{arith}
+use lib.Bits.{bit_and}
 use lib.ListN.{length, replicate, length-replicate}
 use Rattle.chain.specs.declared.Chain.{Chain}
 use Rattle.chain.specs.declared.Made.{Made}
@@ -23,7 +24,7 @@ use Rattle.grammar.specs.Stores.{puts_of}
 use Rattle.grammar.proofs.Runs.Keeps.{write_misses, run_open}
 use Rattle.grammar.proofs.Runs.Stays.{went_stays, run_stays}
 use Rattle.hunt.specs.Bits.{byte_at, bytes_from}
-use Rattle.sheet.specs.Steps.{rest_at, Writing, bound_at}
+use Rattle.sheet.specs.Steps.{rest_at, Writing, bound_at, Header}
 use Rattle.sheet.proofs.Bounds.{byte_small}
 use Rattle.sheet.proofs.Stored.{over_puts, frame_puts, writing_gone, writing-size}
 use Rattle.sheet.proofs.WalkTurns.{ahead_gone, ahead-over, Framing}
@@ -109,7 +110,7 @@ module _ (d : Chain) (len : ℕ) (w : Writing d len) (s : List ℕ) (q k n at : 
       let e5 : 8 * (q + at + 4) + k + 8 ≡ 8 * (q + (at + 5)) + k = omega arith in
       rw (m, e1, e2, e3, e4, e5, ← e0)
 
-  pub header_framing : d.place.awaited ≡ at_null → (start end : ℕ) → start ≡ bound_at s k (q + (at + 1)) → end ≡ bound_at s k (q + (at + 3)) → fits_of len start end ≡ true
+  header_framing : d.place.awaited ≡ at_null → (start end : ℕ) → start ≡ bound_at s k (q + (at + 1)) → end ≡ bound_at s k (q + (at + 3)) → fits_of len start end ≡ true
       → (c : Chain) → c ≡ with_place d (headed_of d.place start end) → Framing d len s q k n at c 5
   header_framing null start end f g fit c e =
       let d1 : q + (at + 1) ≡ q + at + 1 = omega arith in
@@ -130,3 +131,9 @@ module _ (d : Chain) (len : ℕ) (w : Writing d len) (s : List ℕ) (q k n at : 
         write = subst (λ (x : Chain). Writing x len) (sym e)
             (writing-run d len bs (with_place d (headed_of d.place start end)) (replicate len 0) w (small 0, (small 1, (small 2, (small 3, (small 4, tt))))) r);
       }
+
+-- where a stream's bytes stand from bit p on
+pub window_framing : (d : Chain) (len : ℕ) (s : List ℕ) (p at start end : ℕ) (c : Chain) → Writing d len → Header d.place.awaited len s p at start end
+    → c ≡ with_place d (headed_of d.place start end) → Framing d len s (p / 8) (bit_and p 7) (length s - (p + 7) / 8) at c 5
+window_framing d len s p at start end c w x e =
+    header_framing d len w s (p / 8) (bit_and p 7) (length s - (p + 7) / 8) at x.there x.null start end x.start_is x.end_is x.fits c e

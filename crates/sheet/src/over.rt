@@ -6,6 +6,7 @@ ghost use Rattle.sheet.specs.Count.{over_cells};
 const BLOCK: usize = 4096;
 
 // f of each of n cells, 8 at most, summed.
+// Kept: no plainer: that there are no more cells than in the largest device stands in three contracts, of a number and of two sorts of part.
 pub fn over_cells<F: Fn(usize) -> u16>(n: usize, f: F) -> u32
     requires size { n ≤ 16381 }
     requires callable { (i : ℕ) → i < n → F.pre f i }

@@ -1,18 +1,15 @@
-use Rattle.std.proofs.Common.{arith, refl, sym, ap, ap₂, subst, ◌≡◌, ◌∙◌, ℕ, List, ◌∷◌, length, take, replicate}
+use Rattle.std.proofs.Common.{arith, refl, sym, ap, subst, ◌≡◌, ◌∙◌, ℕ, List, length, take, replicate}
 use borrow.Author.Tests.{eqb-false}
-use lib.ListN.{length-replicate}
 use lib.Seq.{sets}
-use Rattle.chain.specs.declared.Made.{Made}
 use Rattle.chain.specs.Paper.{done}
 use Rattle.chain.specs.Refusal.{number_of}
 use Rattle.chain.specs.Kinds.{size_of}
-use Rattle.chain.specs.Calls.{new_of}
 use Rattle.chain.proofs.PassedUp.{not_done}
 use Rattle.sheet.specs.Stream.{Device, device, reset_device}
 use Rattle.sheet.specs.Sheet.{streams_of, rows_of, sums_of, numbers_of, figures_of}
 use Rattle.sheet.proofs.Left.{Idle, reset_idle}
 use Rattle.sheet.proofs.Accepted.{accepted}
-use Rattle.sheet.proofs.Whole.{zeros-front, new_device, refused, filled}
+use Rattle.sheet.proofs.Whole.{made_device, refused, filled}
 use Rattle.sheet.proofs.load_sheet.Goals as goal
 
 -- `sheet::load_sheet` meets its contract. Assumes nothing.
@@ -27,14 +24,8 @@ rows-requires c =
     let a = c.args in
     let o = c.in-Ok.ensures in
     let x = accepted a.kind a.mode a.streams.now a.lengths.now (length a.numbers.now) (length a.figures.now) (sym o.number) in
-    let size = c.from-size.result in
-    let mem : List ℕ = take size (replicate 16381 0) in
-    let n : size ≡ size_of a.kind = c.from-size.ensures ∙ c.size.ensures.value ∙ ap size_of o.named.0 in
-    let z : mem ≡ replicate (size_of a.kind) 0 = zeros-front size 16381 (omega (arith, c.from-size.ensures, c.size.ensures.bounds)) ∙ ap (λ (k : ℕ). replicate k 0) n in
-    let l : length mem ≡ size_of a.kind = ap (λ (m : List ℕ). length m) z ∙ length-replicate {A = ℕ} (size_of a.kind) 0 in
-    let ch : c.new.result.chain ≡ (reset_device a.kind).chain =
-    ap (λ (m : Made). m.chain) c.new.ensures.made ∙ ap₂ (λ (k j : ℕ). (new_of 1 (k ∷ replicate 7 0) j).chain) (c.number.ensures ∙ o.named.0) l ∙ new_device a.kind x.known in
-    let dev : device c.new.result.chain mem ≡ reset_device a.kind = ap₂ device ch z in
+    let n = c.from-size.ensures ∙ c.size.ensures.value ∙ ap size_of o.named.0 in
+    let dev = made_device a.kind c.number.result c.from-size.result c.new.result x.known (c.number.ensures ∙ o.named.0) n (omega (arith, c.from-size.ensures, c.size.ensures.bounds)) c.new.ensures.made in
     let i = subst Idle (sym dev) (reset_idle a.kind x.known) in
     (i.ready, i.bytes, refl, refl, x.few, x.exact, x.short, x.room_numbers, x.room_figures)
 
@@ -43,15 +34,9 @@ returns c =
     let a = c.args in
     let o = c.in-Ok.ensures in
     let x = accepted a.kind a.mode a.streams.now a.lengths.now (length a.numbers.now) (length a.figures.now) (sym o.number) in
-    let size = c.from-size.result in
-    let mem : List ℕ = take size (replicate 16381 0) in
-    let n : size ≡ size_of a.kind = c.from-size.ensures ∙ c.size.ensures.value ∙ ap size_of o.named.0 in
-    let z : mem ≡ replicate (size_of a.kind) 0 = zeros-front size 16381 (omega (arith, c.from-size.ensures, c.size.ensures.bounds)) ∙ ap (λ (k : ℕ). replicate k 0) n in
-    let l : length mem ≡ size_of a.kind = ap (λ (m : List ℕ). length m) z ∙ length-replicate {A = ℕ} (size_of a.kind) 0 in
-    let ch : c.new.result.chain ≡ (reset_device a.kind).chain =
-    ap (λ (m : Made). m.chain) c.new.ensures.made ∙ ap₂ (λ (k j : ℕ). (new_of 1 (k ∷ replicate 7 0) j).chain) (c.number.ensures ∙ o.named.0) l ∙ new_device a.kind x.known in
-    let d : Device = device c.new.result.chain mem in
-    let dev : d ≡ reset_device a.kind = ap₂ device ch z in
+    let n = c.from-size.ensures ∙ c.size.ensures.value ∙ ap size_of o.named.0 in
+    let dev = made_device a.kind c.number.result c.from-size.result c.new.result x.known (c.number.ensures ∙ o.named.0) n (omega (arith, c.from-size.ensures, c.size.ensures.bounds)) c.new.ensures.made in
+    let d : Device = device c.new.result.chain (take c.from-size.result (replicate 16381 0)) in
     let ss : List (List ℕ) = streams_of a.lengths.now a.streams.now in
     let e = c.rows.ensures in
     filled a.kind a.mode a.streams.now a.lengths.now a.numbers.now a.figures.now done o.number refl d dev _ _ _

@@ -1,6 +1,6 @@
 use Rattle.std.proofs.Common.{arith, ◌∙◌, ◌+◌, ◌-◌, ◌/◌, ℕ, length, bit_and}
 use Rattle.sheet.proofs.Stored.{writing_past}
-use Rattle.sheet.proofs.Frames.{one_framing, one-over, header_framing}
+use Rattle.sheet.proofs.Frames.{one_framing, one-over, window_framing}
 use Rattle.sheet.proofs.WalkTurns.{none_left, data_part, part_after}
 use Rattle.sheet.proofs.stores.StoresIterator.next.Goals as goal
 
@@ -28,24 +28,16 @@ returns-then-self-eq-AT_DATA-clause-steps c =
 pub invariant_of-self-in-Some : goal.invariant_of-self-in-Some
 invariant_of-self-in-Some c =
     let s = c.loop-self.self in
-    let p = s.bytes.p in
-    let n : ℕ = length s.bytes.stream.now - (p + 7) / 8 in
     let x = c.in-Some.ensures in
-    let f =
-    header_framing s.chain s.size s.writing s.bytes.stream.now (p / 8) (bit_and p 7) n s.at x.there x.null c.in-Some.window.start c.in-Some.window.end x.start_is x.end_is x.fits
-    c.past_header-self.result c.past_header-self.ensures in
+    let f = window_framing s.chain s.size s.bytes.stream.now s.bytes.p s.at _ _ _ s.writing x c.past_header-self.ensures in
     record { writing = f.write; within = x.there }
 
 pub loop-self-preserved-in-Some : goal.loop-self-preserved-in-Some
 loop-self-preserved-in-Some c =
     let s = c.loop-self.self in
     let v = c.loop-self.invariant in
-    let p = s.bytes.p in
-    let n : ℕ = length s.bytes.stream.now - (p + 7) / 8 in
     let x = c.in-Some.ensures in
-    let f =
-    header_framing s.chain s.size s.writing s.bytes.stream.now (p / 8) (bit_and p 7) n s.at x.there x.null c.in-Some.window.start c.in-Some.window.end x.start_is x.end_is x.fits
-    c.past_header-self.result c.past_header-self.ensures in
+    let f = window_framing s.chain s.size s.bytes.stream.now s.bytes.p s.at _ _ _ s.writing x c.past_header-self.ensures in
     record { size = v.size; bytes = v.bytes; further = omega (arith, v.further); left = v.left ∙ f.on }
 
 pub returns-then-made-ne-MORE-clause-steps : goal.returns-then-made-ne-MORE-clause-steps
