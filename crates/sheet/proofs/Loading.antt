@@ -9,23 +9,24 @@ use borrow.Author.Tests.{eq-eqb, ne_eqb, eqb-false}
 use lib.Dec.{eqb}
 use lib.ListN.{length, get_or}
 use Rattle.chain.specs.declared.Chain.{Chain}
+use Rattle.chain.specs.declared.Made.{Made}
 use Rattle.chain.specs.declared.Place.{Place}
 use Rattle.chain.specs.declared.mode.Mode.{Mode}
 use Rattle.chain.specs.declared.mode.Mode.TheVariants.{Upward, Downward, SerialExternal, SerialInternal, EpromInternal, TwoPreambles}
 use Rattle.chain.specs.Mode.{mode_number}
-use Rattle.chain.specs.Paper.{serial, first_mode, two_preambles, most_bytes, more}
+use Rattle.chain.specs.Paper.{serial, first_mode, two_preambles, most_bytes, more, writing}
 use Rattle.chain.specs.Rules.{pick, from}
 use Rattle.chain.specs.Set.{with_place, closed_place}
 use Rattle.chain.specs.Kinds.{size_of, base_of}
 use Rattle.chain.specs.Bytes.{Bytes}
-use Rattle.chain.proofs.Bytes.{bytes-at}
+use Rattle.chain.proofs.Bytes.{bytes-at, bytes_by}
 use Rattle.chain.proofs.Sizes.{size_most, size-least}
 use Rattle.chain.proofs.Sound.{state_usable}
 use Rattle.chain.proofs.BadChain.{m_known}
 use Rattle.machine.specs.declared.Answer.{Answer}
 use Rattle.machine.specs.declared.Fed.{Fed}
 use Rattle.machine.specs.Run.{Run, run, run_of}
-use Rattle.machine.specs.Calls.{fed_of}
+use Rattle.machine.specs.Calls.{start_of, fed_of}
 use Rattle.machine.proofs.Runs.{run_lasts}
 use Rattle.hunt.specs.Bits.{bytes_from, whole_from}
 use Rattle.hunt.specs.Hunt.{nowhere, found_at, hunted_bytes}
@@ -166,26 +167,54 @@ module _ (d : Device) (mode : ℕ) (s : List ℕ) (i : Idle d) (m : from first_m
     left_is : puts_left c s p 0 ≡ puts_of c (bytes_after s p)
     left_is = ap (puts_of c) (sym (rest-first s p))
 
-    pub opened_same : length mem ≡ length d.memory
+    opened_same : length mem ≡ length d.memory
     opened_same = ap length after ∙ (run_lasts (bytes_after s p) (run c d.memory more)).memory
 
-    pub opened_writing : Writing c (length mem)
+    opened_writing : Writing c (length mem)
     opened_writing = rw (opened_same, st) (started-writing d mode i m)
 
-    pub opened_few : length s ≤ most_bytes → f.answer.taken ≤ most_bytes
+    opened_few : length s ≤ most_bytes → f.answer.taken ≤ most_bytes
     opened_few n = subst (λ (x : Fed). x.answer.taken ≤ most_bytes) (sym as_fed) (taken_few d mode s i m u p e h n)
 
-    pub opened_memory : mem ≡ put_into (puts_left c s p 0) d.memory
+    opened_memory : mem ≡ put_into (puts_left c s p 0) d.memory
     opened_memory = rw left_is (after ∙ run_puts (bytes_after s p) c d.memory)
 
-    pub opened_row : (r : Sheet) → r ≡ row_from mode p f.answer (puts_left c s p 0) d.memory mem → r ≡ row_of d mode s
+    opened_row : (r : Sheet) → r ≡ row_from mode p f.answer (puts_left c s p 0) d.memory mem → r ≡ row_of d mode s
     opened_row r g = rw left_is at g ∙ row_same mode p (bytes_after s p) d.memory (ap (λ (y : Fed). y.answer) as_fed) st as-left ∙ row_is d mode s i m u p e h
 
-    pub opened_chain : with_place f.chain closed_place ≡ (left_by d mode s).chain
+    opened_chain : with_place f.chain closed_place ≡ (left_by d mode s).chain
     opened_chain = ap (λ (y : Fed). with_place y.chain closed_place) as_fed ∙ chain_left d mode s i m u p e h
 
-    pub opened_left : mem ≡ (left_by d mode s).memory
+    opened_left : mem ≡ (left_by d mode s).memory
     opened_left = as-left ∙ memory-left d mode s i m u p e h
+
+-- what is known of it, as the code has it: r is the start's answer
+pub record Opened (d : Device) (mode : ℕ) (s : List ℕ) (p : ℕ) (c : Chain) (f : Fed) (mem : List ℕ) : Type 0 where
+  pub writes : Writing c (length mem)
+  pub few : f.answer.taken ≤ most_bytes
+  pub memory : mem ≡ put_into (puts_left c s p 0) d.memory
+  pub row : (r : Sheet) → r ≡ row_from mode p f.answer (puts_left c s p 0) d.memory mem → r ≡ row_of d mode s
+  pub chain : with_place f.chain closed_place ≡ (left_by d mode s).chain
+  pub left : mem ≡ (left_by d mode s).memory
+
+pub opened : (d : Device) (mode : Mode) (s : List ℕ) (p n : ℕ) (r : Made) (f : Fed) (mem : List ℕ) → Ready d.chain (length d.memory) → Bytes d.memory
+    → ((i : ℕ) → get_or s i 0 < 256) → length s ≤ most_bytes → (p ≡ shift_of (mode_number mode) s) × (p < nowhere) → n ≡ mode_number mode
+    → r ≡ start_of d.chain (length d.memory) n writing → f ≡ fed_of (run_of (run r.chain d.memory more) (bytes_after s p))
+    → mem ≡ (run_of (run r.chain d.memory more) (bytes_after s p)).memory → Opened d (mode_number mode) s p r.chain f mem
+opened d mode s p n r f mem ready bytes small few e named made fed after =
+    let k = mode_number mode in
+    let i : Idle d = record { ready = ready; bytes = bytes } in
+    let u = bytes_by s (λ j h. small j) in
+    let st : r.chain ≡ started d k = ap (λ (x : Made). x.chain) made ∙ ap (λ (x : ℕ). (start_of d.chain (length d.memory) x writing).chain) named in
+    let m = mode_known mode in
+    record {
+      writes = opened_writing d k s i m u p e.0 e.1 r.chain st f fed mem after;
+      few = opened_few d k s i m u p e.0 e.1 r.chain st f fed mem after few;
+      memory = opened_memory d k s i m u p e.0 e.1 r.chain st f fed mem after;
+      row = opened_row d k s i m u p e.0 e.1 r.chain st f fed mem after;
+      chain = opened_chain d k s i m u p e.0 e.1 r.chain st f fed mem after;
+      left = opened_left d k s i m u p e.0 e.1 r.chain st f fed mem after;
+    }
 
 -- the hunt fails
 module _ (d : Device) (mode : ℕ) (s : List ℕ) (p : ℕ) (e : p ≡ shift_of mode s) (h : nowhere ≤ p) where
