@@ -156,37 +156,37 @@ row_same mode p bs before e f h = rw (e, f, h)
 
 -- the run that is started at c, and what it is fed
 module _ (d : Device) (mode : ℕ) (s : List ℕ) (i : Idle d) (m : from first_mode two_preambles mode ≡ true) (u : Bytes s) (p : ℕ) (e : p ≡ shift_of mode s) (h : p < nowhere)
-  (c : Chain) (st : c ≡ started d mode) (f : Fed) (fed : f ≡ fed_of (run_of (run c d.memory more) (bytes_after s p))) (mem : List ℕ)
-  (after : mem ≡ (run_of (run c d.memory more) (bytes_after s p)).memory) where
-    as_fed : f ≡ fed_of (run_of (run (started d mode) d.memory more) (bytes_after s p))
-    as_fed = fed ∙ ap (λ (c : Chain). fed_of (run_of (run c d.memory more) (bytes_after s p))) st
+    (c : Chain) (st : c ≡ started d mode) (f : Fed) (fed : f ≡ fed_of (run_of (run c d.memory more) (bytes_after s p))) (mem : List ℕ)
+    (after : mem ≡ (run_of (run c d.memory more) (bytes_after s p)).memory) where
+  as_fed : f ≡ fed_of (run_of (run (started d mode) d.memory more) (bytes_after s p))
+  as_fed = fed ∙ ap (λ (c : Chain). fed_of (run_of (run c d.memory more) (bytes_after s p))) st
 
-    as-left : mem ≡ (run_of (run (started d mode) d.memory more) (bytes_after s p)).memory
-    as-left = after ∙ ap (λ (c : Chain). (run_of (run c d.memory more) (bytes_after s p)).memory) st
+  as-left : mem ≡ (run_of (run (started d mode) d.memory more) (bytes_after s p)).memory
+  as-left = after ∙ ap (λ (c : Chain). (run_of (run c d.memory more) (bytes_after s p)).memory) st
 
-    left_is : puts_left c s p 0 ≡ puts_of c (bytes_after s p)
-    left_is = ap (puts_of c) (sym (rest-first s p))
+  left_is : puts_left c s p 0 ≡ puts_of c (bytes_after s p)
+  left_is = ap (puts_of c) (sym (rest-first s p))
 
-    opened_same : length mem ≡ length d.memory
-    opened_same = ap length after ∙ (run_lasts (bytes_after s p) (run c d.memory more)).memory
+  opened_same : length mem ≡ length d.memory
+  opened_same = ap length after ∙ (run_lasts (bytes_after s p) (run c d.memory more)).memory
 
-    opened_writing : Writing c (length mem)
-    opened_writing = rw (opened_same, st) (started-writing d mode i m)
+  opened_writing : Writing c (length mem)
+  opened_writing = rw (opened_same, st) (started-writing d mode i m)
 
-    opened_few : length s ≤ most_bytes → f.answer.taken ≤ most_bytes
-    opened_few n = subst (λ (x : Fed). x.answer.taken ≤ most_bytes) (sym as_fed) (taken_few d mode s i m u p e h n)
+  opened_few : length s ≤ most_bytes → f.answer.taken ≤ most_bytes
+  opened_few n = subst (λ (x : Fed). x.answer.taken ≤ most_bytes) (sym as_fed) (taken_few d mode s i m u p e h n)
 
-    opened_memory : mem ≡ put_into (puts_left c s p 0) d.memory
-    opened_memory = rw left_is (after ∙ run_puts (bytes_after s p) c d.memory)
+  opened_memory : mem ≡ put_into (puts_left c s p 0) d.memory
+  opened_memory = rw left_is (after ∙ run_puts (bytes_after s p) c d.memory)
 
-    opened_row : (r : Sheet) → r ≡ row_from mode p f.answer (puts_left c s p 0) d.memory mem → r ≡ row_of d mode s
-    opened_row r g = rw left_is at g ∙ row_same mode p (bytes_after s p) d.memory (ap (λ (y : Fed). y.answer) as_fed) st as-left ∙ row_is d mode s i m u p e h
+  opened_row : (r : Sheet) → r ≡ row_from mode p f.answer (puts_left c s p 0) d.memory mem → r ≡ row_of d mode s
+  opened_row r g = rw left_is at g ∙ row_same mode p (bytes_after s p) d.memory (ap (λ (y : Fed). y.answer) as_fed) st as-left ∙ row_is d mode s i m u p e h
 
-    opened_chain : with_place f.chain closed_place ≡ (left_by d mode s).chain
-    opened_chain = ap (λ (y : Fed). with_place y.chain closed_place) as_fed ∙ chain_left d mode s i m u p e h
+  opened_chain : with_place f.chain closed_place ≡ (left_by d mode s).chain
+  opened_chain = ap (λ (y : Fed). with_place y.chain closed_place) as_fed ∙ chain_left d mode s i m u p e h
 
-    opened_left : mem ≡ (left_by d mode s).memory
-    opened_left = as-left ∙ memory-left d mode s i m u p e h
+  opened_left : mem ≡ (left_by d mode s).memory
+  opened_left = as-left ∙ memory-left d mode s i m u p e h
 
 -- what is known of it, as the code has it: r is the start's answer
 pub record Opened (d : Device) (mode : ℕ) (s : List ℕ) (p : ℕ) (c : Chain) (f : Fed) (mem : List ℕ) : Type 0 where

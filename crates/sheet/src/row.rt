@@ -91,14 +91,7 @@ fn count(stores: Stores, walked: Walked, marks: &mut [u8]) -> Counts
 }
 
 // The row of a run that has been fed: old is memory before it, and is then as mem.
-fn row(
-    stores: Stores,
-    mode: Mode,
-    a: Answer,
-    mem: &[u8],
-    old: &mut [u8],
-    marks: &mut [u8],
-) -> Sheet
+fn row(stores: Stores, mode: Mode, a: Answer, mem: &[u8], old: &mut [u8], marks: &mut [u8]) -> Sheet
     requires { (length old.old ≡ stores.size) × (length marks.old ≡ length old.old) × (a.taken ≤ most_bytes)
         × (mem.now ≡ put_into (puts_left stores.chain stores.bytes.stream.now stores.bytes.p stores.at) old.old) }
     ensures value { result ≡ row_from (mode_number mode) stores.entry.bytes.p a (puts_left stores.entry.chain stores.entry.bytes.stream.now stores.entry.bytes.p stores.entry.at) old.old mem.now }

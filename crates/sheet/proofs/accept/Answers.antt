@@ -13,12 +13,12 @@ pub returns-then-n-gt-MOST_STREAMS-clause-number : goal.returns-then-n-gt-MOST_S
 returns-then-n-gt-MOST_STREAMS-clause-number c =
     let a = c.args in
     elim c.then-n-gt-MOST_STREAMS.branch [
-      then-n-gt-MOST_STREAMS-via-then-n-gt-MOST_STREAMS w ↦ too_many a.kind a.mode a.streams.now a.lengths.now a.numbers a.figures w.if-n-gt-MOST_STREAMS.true
+      | then-n-gt-MOST_STREAMS-via-then-n-gt-MOST_STREAMS w ↦ too_many a.kind a.mode a.streams.now a.lengths.now a.numbers a.figures w.if-n-gt-MOST_STREAMS.true
       | then-n-gt-MOST_STREAMS-via-else-n-gt-MOST_STREAMS+then-total-streams w ↦
-      other-sum a.kind a.mode a.streams.now a.lengths.now a.numbers a.figures w.if-n-gt-MOST_STREAMS.false (λ e. w.if-total-streams.true (w.total.ensures ∙ e))
+          other-sum a.kind a.mode a.streams.now a.lengths.now a.numbers a.figures w.if-n-gt-MOST_STREAMS.false (λ e. w.if-total-streams.true (w.total.ensures ∙ e))
       | then-n-gt-MOST_STREAMS-via-else-n-gt-MOST_STREAMS+else-total-streams+then-streams-gt-MOST_BYTES w ↦
-      too_long a.kind a.mode a.streams.now a.lengths.now a.numbers a.figures w.if-n-gt-MOST_STREAMS.false (sym w.total.ensures ∙ w.if-total-streams.false)
-      w.if-streams-gt-MOST_BYTES.true
+          too_long a.kind a.mode a.streams.now a.lengths.now a.numbers a.figures w.if-n-gt-MOST_STREAMS.false (sym w.total.ensures ∙ w.if-total-streams.false)
+          w.if-streams-gt-MOST_BYTES.true
     ]
 
 pub returns-in_err-kind-clause-number : goal.returns-in_err-kind-clause-number
@@ -43,12 +43,12 @@ returns-then-numbers-n-clause-number c =
     let good : from first_mode two_preambles a.mode ≡ true = ap (from first_mode two_preambles) (sym c.in_ok-mode.ensures) ∙ mode_known c.in_ok-mode.mode in
     let exact = sym c.total.ensures ∙ c.if-total-streams.false in
     elim c.then-numbers-n.branch [
-      then-numbers-n-via-then-numbers-n w ↦
-      few_numbers a.kind a.mode a.streams.now a.lengths.now a.numbers a.figures c.if-n-gt-MOST_STREAMS.false exact c.if-streams-gt-MOST_BYTES.false known good
-      w.if-numbers-n.true
+      | then-numbers-n-via-then-numbers-n w ↦
+          few_numbers a.kind a.mode a.streams.now a.lengths.now a.numbers a.figures c.if-n-gt-MOST_STREAMS.false exact c.if-streams-gt-MOST_BYTES.false known good
+          w.if-numbers-n.true
       | then-numbers-n-via-else-numbers-n+then-figures-n w ↦
-      few_figures a.kind a.mode a.streams.now a.lengths.now a.numbers a.figures c.if-n-gt-MOST_STREAMS.false exact c.if-streams-gt-MOST_BYTES.false known good
-      w.if-numbers-n.false w.if-figures-n.true
+          few_figures a.kind a.mode a.streams.now a.lengths.now a.numbers a.figures c.if-n-gt-MOST_STREAMS.false exact c.if-streams-gt-MOST_BYTES.false known good
+          w.if-numbers-n.false w.if-figures-n.true
     ]
 
 pub returns-clause-number : goal.returns-clause-number

@@ -1,11 +1,11 @@
-use Rattle.std.proofs.Common.{arith, refl, sym, ap, subst, ◌≡◌, ◌∙◌, ℕ, List, length, take, replicate}
+use Rattle.std.proofs.Common.{arith, refl, sym, ap, subst, ◌∙◌, ℕ, List, length, take, replicate}
 use borrow.Author.Tests.{eqb-false}
 use lib.Seq.{sets}
 use Rattle.chain.specs.Paper.{done}
 use Rattle.chain.specs.Refusal.{number_of}
 use Rattle.chain.specs.Kinds.{size_of}
 use Rattle.chain.proofs.PassedUp.{not_done}
-use Rattle.sheet.specs.Stream.{Device, device, reset_device}
+use Rattle.sheet.specs.Stream.{Device, device}
 use Rattle.sheet.specs.Sheet.{streams_of, rows_of, sums_of, numbers_of, figures_of}
 use Rattle.sheet.proofs.Left.{Idle, reset_idle}
 use Rattle.sheet.proofs.Accepted.{accepted}

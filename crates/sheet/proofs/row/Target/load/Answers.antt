@@ -55,8 +55,7 @@ row-row-requires c =
     let o =
     opened (device t.chain t.memory.now) c.args.mode s c.in-Some.p _ c.start.result _ _ r.0 r.4 (λ i. (c.type_inv.s i).fits) r.1 c.in-Some.ensures c.number.ensures
     c.start.ensures.made f.value f.mem_after in
-    let l : length t.before.now ≡ length t.memory.now = ap (λ (m : List ℕ). length m) r.2 in
-    (
+    let l : length t.before.now ≡ length t.memory.now = ap (λ (m : List ℕ). length m) r.2 in (
       omega (arith, l, c.load-fed.auto.mem),
       omega (arith, l, c.load-fed.auto.room, r.3),
       o.few,
