@@ -1,11 +1,15 @@
 -- One byte of an open run: which number it gives, and where the run goes on. Assumes nothing.
-use Rattle.std.specs.Prelude.{ℕ, ◌+◌, ◌-◌, ◌*◌, ◌%◌, ◌^◌, Bool, not, ◌&&◌, ◌||◌, List, [], ◌∷◌, ◌==◌, nat_eq, nat_le, nat_lt, slice_index}
+use Rattle.std.specs.Prelude.{◌≡◌, ◌≢◌, ℕ, ◌+◌, ◌-◌, ◌*◌, ◌%◌, ◌^◌, Bool, not, ◌&&◌, ◌||◌, List, [], ◌∷◌, ◌==◌, nat_eq, nat_le, nat_lt, slice_index, Result, Ok, Err}
+use Rattle.std.specs.declared.ops.ControlFlow.{ControlFlow}
+use Rattle.std.specs.declared.ops.ControlFlow.TheVariants.{Continue, Break}
 use Rattle.chain.specs.declared.Chain.{Chain}
 use Rattle.chain.specs.declared.Place.{Place}
+use Rattle.chain.specs.declared.refusal.Refusal.{Refusal}
 use Rattle.chain.specs.Paper.{preamble, postamble, no_windows, at_preamble, at_second, at_control, at_address, at_address2, at_address3, at_count, at_null, at_start, at_start_low, at_end, at_end_low, at_data, at_check, checking, two_preambles, done, no_preamble, barred, no_check, bad_check_byte, ends_here, last_device, bad_start, bad_end, more, B2, B3, B4}
 use Rattle.chain.specs.Rules.{pick, Rule, ◌gives◌, first_of, Row, ◌⇒◌, row_of}
 use Rattle.chain.specs.Set.{with_awaited, with_left, with_control, with_start, with_end, with_next, with_device}
 use Rattle.chain.specs.Kinds.{size_here}
+use Rattle.chain.specs.Refusal.{answered}
 use Rattle.chain.specs.Window.{with_low, start_outside, end_outside}
 
 -- the run awaits the byte a
@@ -56,6 +60,16 @@ byte_rules c b =
 
 unfoldable pub number_of : Chain → ℕ → ℕ
 number_of c b = first_of (byte_rules c b) more
+
+-- what a byte gives, as the code has it, by its number: the run goes on at 16, and is over at every other
+abbrev pub Given : ControlFlow (Result Unit Refusal) Unit → ℕ → Type 0
+Given (Continue x) n = n ≡ more
+Given (Break end) n = (answered end ≡ n) × (n ≢ more)
+
+-- a test of the byte: where it passes the run goes on
+abbrev pub Passes : Result Unit Refusal → ℕ → Type 0
+Passes (Ok x) n = n ≡ more
+Passes (Err e) n = Given (Break (Err e)) n
 
 abbrev pub no_window : Place → Place
 no_window p = with_start (with_end (with_next p 0) 0) 0

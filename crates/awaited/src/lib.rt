@@ -1,129 +1,131 @@
 // What one byte of an open run gives, and where the run goes on.
-#![tactic(auto)]
+#![tactic(auto, using(chain::proofs::Tests::tests), unfolding(crate::specs::Byte::number_of, crate::specs::Byte::passed_of, crate::specs::Byte::advance_of))]
 
-ghost use Rattle.std.specs.Prelude.{◌≡◌, ◌&&◌, ◌==◌};
-ghost use Rattle.chain.specs.Paper.{at_preamble, at_second, at_control, at_check, at_start_low, at_end_low, barred, no_check, more, checking, B3, B4};
+ghost use Rattle.std.specs.Prelude.{◌≡◌, ◌≢◌, ◌&&◌, ◌==◌};
+ghost use Rattle.chain.specs.Paper.{at_preamble, at_second, at_control, at_check, at_start_low, at_end_low, barred, no_check, more, checking, postamble, B3, B4};
 ghost use Rattle.chain.specs.Rules.{pick};
-ghost use Rattle.awaited.specs.Byte.{number_of, passed_of, advance_of};
+ghost use Rattle.awaited.specs.Byte.{number_of, Given, Passes, passed_of, advance_of};
 
+use chain::control::Control;
 use chain::eight::at8;
 use chain::kinds::size_here;
 use chain::paper::*;
-use chain::window::with_low;
+use chain::refusal::Refusal;
+use chain::window::{pair, with_low};
 use chain::{Chain, Place};
+use std::ops::ControlFlow;
+
+// Kept: C interface: C lends any byte as a place's `awaited`, `mode` or `check`, and each has its answer, so that they are compared as numbers here
+// (eight places).
 
 // A B2 that begins a device whose stored register is g.
-fn begun(check: u8, g: u8) -> u8
-    ensures { result ≡ pick (B4 g) barred (pick (check == checking && B3 g) no_check more) }
+fn begins(check: u8, g: u8) -> Result<(), Refusal>
+    ensures { Passes result (pick (B4 g) barred (pick (check == checking && B3 g) no_check more)) }
 {
-    if g / BIT_4 % 2 == 1 {
-        return BARRED;
+    let stored = Control(g);
+    if stored.bars_runs() {
+        return Err(Refusal::Barred);
     }
-    if check == CHECKING {
-        if g / BIT_3 % 2 == 1 {
-            return NO_CHECK;
-        }
-        return MORE;
+    if check == CHECKING && stored.bars_checks() {
+        return Err(Refusal::NoCheck);
     }
-    MORE
+    Ok(())
 }
 
-fn number_at_preamble(c: Chain, b: u8) -> u8
+fn at_preamble(c: Chain, b: u8) -> Result<(), Refusal>
     requires { c.place.awaited ≡ at_preamble }
-    ensures { result ≡ number_of c b }
+    ensures { Passes result (number_of c b) }
 {
     if b != PREAMBLE {
-        return NO_PREAMBLE;
+        return Err(Refusal::NoPreamble);
     }
     if c.place.mode == TWO_PREAMBLES {
-        return MORE;
+        return Ok(());
     }
-    let rs = c.registers;
-    begun(c.place.check, at8(rs, c.place.device))
+    begins(c.place.check, at8(c.registers, c.place.device))
 }
 
-fn number_at_second(c: Chain, b: u8) -> u8
+fn at_second(c: Chain, b: u8) -> Result<(), Refusal>
     requires { c.place.awaited ≡ at_second }
-    ensures { result ≡ number_of c b }
+    ensures { Passes result (number_of c b) }
 {
     if b != PREAMBLE {
-        return NO_PREAMBLE;
+        return Err(Refusal::NoPreamble);
     }
-    let rs = c.registers;
-    begun(c.place.check, at8(rs, c.place.device))
+    begins(c.place.check, at8(c.registers, c.place.device))
 }
 
-fn number_at_control(c: Chain, b: u8) -> u8
+fn at_control(c: Chain, b: u8) -> Result<(), Refusal>
     requires { c.place.awaited ≡ at_control }
-    ensures { result ≡ number_of c b }
+    ensures { Passes result (number_of c b) }
 {
-    if c.place.check == CHECKING {
-        if b / BIT_3 % 2 == 1 {
-            return NO_CHECK;
-        }
-        return MORE;
+    if c.place.check == CHECKING && Control(b).bars_checks() {
+        return Err(Refusal::NoCheck);
     }
-    MORE
+    Ok(())
 }
 
-fn number_at_start(c: Chain, b: u8) -> u8
+fn at_start(c: Chain, b: u8) -> Result<(), Refusal>
     requires { c.place.awaited ≡ at_start_low }
-    ensures { result ≡ number_of c b }
+    ensures { Passes result (number_of c b) }
 {
-    if with_low(c.place.start, b) < size_here(c) {
-        return MORE;
+    if size_here(c) <= with_low(c.place.start, b) {
+        return Err(Refusal::BadStart);
     }
-    BAD_START
+    Ok(())
 }
 
-fn number_at_end(c: Chain, b: u8) -> u8
+fn at_end(c: Chain, b: u8) -> Result<(), Refusal>
     requires { c.place.awaited ≡ at_end_low }
-    ensures { result ≡ number_of c b }
+    ensures { Passes result (number_of c b) }
 {
     let end = with_low(c.place.end, b);
-    if (end < c.place.start) | !(end < size_here(c)) {
-        return BAD_END;
+    if end < c.place.start || size_here(c) <= end {
+        return Err(Refusal::BadEnd);
     }
-    MORE
+    Ok(())
 }
 
-fn number_at_check(c: Chain, b: u8) -> u8
-    requires { c.place.awaited ≡ at_check }
-    ensures { result ≡ number_of c b }
+// A check byte that does not end the stream: B2, which goes on to the next device.
+fn at_check(c: Chain, b: u8) -> Result<(), Refusal>
+    requires here { c.place.awaited ≡ at_check }
+    requires goes_on { b ≢ postamble }
+    ensures { Passes result (number_of c b) }
 {
-    if b == POSTAMBLE {
-        return DONE;
-    }
     if b != PREAMBLE {
-        return BAD_CHECK_BYTE;
+        return Err(Refusal::BadCheckByte);
     }
-    if c.place.control / BIT_2 % 2 == 1 {
-        return ENDS_HERE;
+    if Control(c.place.control).ends_here() {
+        return Err(Refusal::EndsHere);
     }
-    if c.count as u16 <= c.place.device as u16 + 1 {
-        return LAST_DEVICE;
+    if u16::from(c.count) <= u16::from(c.place.device) + 1 {
+        return Err(Refusal::LastDevice);
     }
-    let rs = c.registers;
-    begun(
+    begins(
         c.place.check,
-        at8(rs, std::num::wrapping_add_u8(c.place.device, 1)),
+        at8(c.registers, c.place.device.wrapping_add(1)),
     )
 }
 
-// The number that the byte b gives. In line wherever it is called: a byte call that called it would take a hundred instructions more.
+// What the byte b gives: the run goes on, or it is over, accepted or refused. In line wherever it is called: a byte call that called it would take
+// a hundred instructions more.
 #[inline(always)]
-pub fn number(c: Chain, b: u8) -> u8
-    ensures { result ≡ number_of c b }
+pub fn given(c: Chain, b: u8) -> ControlFlow<Result<(), Refusal>>
+    ensures { Given result (number_of c b) }
 {
-    let a = c.place.awaited;
-    match a {
-        AT_PREAMBLE => number_at_preamble(c, b),
-        AT_SECOND => number_at_second(c, b),
-        AT_CONTROL => number_at_control(c, b),
-        AT_START_LOW => number_at_start(c, b),
-        AT_END_LOW => number_at_end(c, b),
-        AT_CHECK => number_at_check(c, b),
-        _ => MORE,
+    let test = match c.place.awaited {
+        AT_PREAMBLE => at_preamble(c, b),
+        AT_SECOND => at_second(c, b),
+        AT_CONTROL => at_control(c, b),
+        AT_START_LOW => at_start(c, b),
+        AT_END_LOW => at_end(c, b),
+        AT_CHECK if b == POSTAMBLE => return ControlFlow::Break(Ok(())),
+        AT_CHECK => at_check(c, b),
+        _ => Ok(()),
+    };
+    match test {
+        Ok(()) => ControlFlow::Continue(()),
+        Err(e) => ControlFlow::Break(Err(e)),
     }
 }
 
@@ -131,92 +133,96 @@ pub fn number(c: Chain, b: u8) -> u8
 pub fn passed(p: Place, n: u32) -> Place
     ensures { result ≡ passed_of p n }
 {
-    let mut q = p;
-    let next = p.next as usize + n as usize;
-    if next <= p.end as usize {
-        q.next = next as u16;
-        return q;
+    let next = u64::from(p.next) + u64::from(n);
+    if next <= u64::from(p.end) {
+        return Place {
+            next: next as u16,
+            ..p
+        };
     }
-    q.start = 0;
-    q.end = 0;
-    q.next = 0;
-    if 1 < p.left {
-        q.left = p.left - 1;
-        q.awaited = AT_NULL;
-        return q;
+    let left = p.left.saturating_sub(1);
+    let awaited = if left == 0 { AT_CHECK } else { AT_NULL };
+    Place {
+        awaited,
+        left,
+        start: 0,
+        end: 0,
+        next: 0,
+        ..p
     }
-    q.left = 0;
-    q.awaited = AT_CHECK;
-    q
 }
 
 // Where the run goes on after the byte b.
 pub fn advance(p: Place, b: u8) -> Place
     ensures { result ≡ advance_of p b }
 {
-    let a = p.awaited;
-    let mut q = p;
-    match a {
-        AT_PREAMBLE => {
-            if p.mode == TWO_PREAMBLES {
-                q.awaited = AT_SECOND;
-            } else {
-                q.awaited = AT_CONTROL;
-            }
-        }
-        AT_SECOND => {
-            q.awaited = AT_CONTROL;
-        }
-        AT_CONTROL => {
-            q.control = b;
-            q.awaited = AT_ADDRESS;
-        }
-        AT_ADDRESS => {
-            q.awaited = AT_ADDRESS2;
-        }
-        AT_ADDRESS2 => {
-            q.awaited = AT_ADDRESS3;
-        }
-        AT_ADDRESS3 => {
-            q.awaited = AT_COUNT;
-        }
-        AT_COUNT => {
-            if b == NO_WINDOWS {
-                q.awaited = AT_CHECK;
-            } else {
-                q.left = 255 - b;
-                q.awaited = AT_NULL;
-            }
-        }
-        AT_NULL => {
-            q.awaited = AT_START;
-        }
-        AT_START => {
-            q.start = b as u16 * 256;
-            q.awaited = AT_START_LOW;
-        }
-        AT_START_LOW => {
-            q.start = with_low(p.start, b);
-            q.awaited = AT_END;
-        }
-        AT_END => {
-            q.end = b as u16 * 256;
-            q.awaited = AT_END_LOW;
-        }
-        AT_END_LOW => {
-            q.end = with_low(p.end, b);
-            q.next = p.start;
-            q.awaited = AT_DATA;
-        }
-        AT_DATA => {
-            return passed(p, 1);
-        }
-        AT_CHECK => {
-            q.device = std::num::wrapping_add_u8(p.device, 1);
-            q.control = 0;
-            q.awaited = AT_CONTROL;
-        }
-        _ => {}
+    match p.awaited {
+        AT_PREAMBLE if p.mode == TWO_PREAMBLES => Place {
+            awaited: AT_SECOND,
+            ..p
+        },
+        AT_PREAMBLE | AT_SECOND => Place {
+            awaited: AT_CONTROL,
+            ..p
+        },
+        AT_CONTROL => Place {
+            awaited: AT_ADDRESS,
+            control: b,
+            ..p
+        },
+        AT_ADDRESS => Place {
+            awaited: AT_ADDRESS2,
+            ..p
+        },
+        AT_ADDRESS2 => Place {
+            awaited: AT_ADDRESS3,
+            ..p
+        },
+        AT_ADDRESS3 => Place {
+            awaited: AT_COUNT,
+            ..p
+        },
+        AT_COUNT if b == NO_WINDOWS => Place {
+            awaited: AT_CHECK,
+            ..p
+        },
+        AT_COUNT => Place {
+            awaited: AT_NULL,
+            left: 255 - b,
+            ..p
+        },
+        AT_NULL => Place {
+            awaited: AT_START,
+            ..p
+        },
+        AT_START => Place {
+            awaited: AT_START_LOW,
+            start: pair(b, 0),
+            ..p
+        },
+        AT_START_LOW => Place {
+            awaited: AT_END,
+            start: with_low(p.start, b),
+            ..p
+        },
+        AT_END => Place {
+            awaited: AT_END_LOW,
+            end: pair(b, 0),
+            ..p
+        },
+        AT_END_LOW => Place {
+            awaited: AT_DATA,
+            end: with_low(p.end, b),
+            next: p.start,
+            ..p
+        },
+        AT_DATA => passed(p, 1),
+        AT_CHECK => Place {
+            awaited: AT_CONTROL,
+            device: p.device.wrapping_add(1),
+            control: 0,
+            ..p
+        },
+        _ => p,
     }
-    q
 }
