@@ -5,3 +5,4 @@ pub mod Starts
 pub mod Only
 pub mod Frame
 pub mod Runs
+pub mod Took

@@ -1,11 +1,12 @@
-use Rattle.chain.proofs.Tests.{tests}
+use Rattle.std.proofs.Common.{◌∙◌}
+use Rattle.chain.proofs.PassedUp.{not_done}
 use Rattle.machine.specs.Calls.{drop_of}
 use Rattle.machine.proofs.drop.Goals as goal
 
-pub returns-then-n-ne-DONE : goal.returns-then-n-ne-DONE
+pub returns-in-Ok : goal.returns-in-Ok
 unfolding drop_of
-returns-then-n-ne-DONE c = record { made = simp (← c.open_number-n.ensures) (search tests) }
+returns-in-Ok c = record { made = c.done.ensures ∙ simp (← c.in-Ok.ensures, c.closed_place.ensures) }
 
-pub returns : goal.returns
+pub returns-in-Err : goal.returns-in-Err
 unfolding drop_of
-returns c = record { made = simp (← c.open_number-n.ensures, c.if-n-ne-DONE.false, c.closed_place-closed.ensures) }
+returns-in-Err c = record { made = c.refused.ensures ∙ simp (← c.in-Err.ensures, not_done c.in-Err.e) }

@@ -1,14 +1,12 @@
 use Rattle.std.proofs.Common.{◌∙◌}
-use Rattle.chain.proofs.Tests.{tests}
+use Rattle.chain.proofs.PassedUp.{not_done}
 use Rattle.machine.specs.Calls.{slice_of, slice_memory}
 use Rattle.machine.proofs.slice.Goals as goal
 
-pub returns-then-n-eq-DONE : goal.returns-then-n-eq-DONE
+pub returns-in-Ok : goal.returns-in-Ok
 unfolding slice_of slice_memory
-returns-then-n-eq-DONE c =
-    let n = c.feed_number-n.ensures in
-    record { fed = c.taken.ensures.value ∙ simp (← n) (search tests); memory = c.taken.ensures.mem_after ∙ simp (← n) (search tests) }
+returns-in-Ok c = record { fed = c.taken.ensures.value ∙ simp (← c.in-Ok.ensures); memory = c.taken.ensures.mem_after ∙ simp (← c.in-Ok.ensures) }
 
-pub returns : goal.returns
+pub returns-in-Err : goal.returns-in-Err
 unfolding slice_of slice_memory
-returns c = record { fed = c.not_fed.ensures ∙ simp (← c.feed_number-n.ensures) (search tests); memory = simp (← c.feed_number-n.ensures) (search tests) }
+returns-in-Err c = record { fed = c.refused.ensures ∙ simp (← c.in-Err.ensures, not_done c.in-Err.e); memory = simp (← c.in-Err.ensures, not_done c.in-Err.e) }

@@ -1,4 +1,0 @@
-use Rattle.machine.proofs.run.over.Goals as goal
-
-pub returns : goal.returns
-returns c = simp c.counting-q.ensures
