@@ -33,7 +33,3 @@ module _ (c : Chain) (m out : List ℕ) where
   pub meets_put : (r : Result ℕ Refusal) (out' : List ℕ) → open_number c (length m) ≡ done → Put (closing_bytes c m) out r out'
       → Closing c m out (record { number = answered r; length = length_in r }) out'
   meets_put r out' h p = rw (number_open c m (length out) h) p
-
--- past the last awaited byte nothing is put
-pub put-none : (bs out : List ℕ) → bs ≡ [] → Put bs out (Ok 0) out
-put-none bs out e = rw e (record { answer = rw (le-ltb (length out) 0 (omega arith)); output = rw (le-ltb (length out) 0 (omega arith)) })

@@ -87,6 +87,7 @@ fn put_after_end(c: Chain, mem: &[u8], out: &mut [u8]) -> Result<usize, Refusal>
 }
 
 // The row of the awaited byte.
+#[tactic(auto, unfolding(crate::specs::Closing::closing_bytes))]
 fn put_row(c: Chain, mem: &[u8], out: &mut [u8]) -> Result<usize, Refusal>
     ensures { Put (closing_bytes c mem.now) out.old result out.new }
 {
