@@ -2,12 +2,11 @@
 use Prim.Native.Nat.{ℕ}
 use mathlib.Core.Path.{◌≡◌, sym, ◌∙◌}
 use mathlib.Core.List.{List, [], ◌∷◌}
-use borrow.Author.Tests.{ne_eqb, le-ltb}
-use native.Mathlib.Omega.{arith}
+use borrow.Author.Tests.{ne_eqb}
 use lib.Dec.{ltb}
 use lib.ListN.{length}
 use Rattle.chain.specs.declared.Chain.{Chain}
-use Rattle.std.specs.Prelude.{Result, Ok}
+use Rattle.std.specs.Prelude.{Result}
 use Rattle.chain.specs.declared.refusal.Refusal.{Refusal}
 use Rattle.chain.specs.Paper.{done, too_short}
 use Rattle.chain.specs.Refusal.{answered, length_in}
