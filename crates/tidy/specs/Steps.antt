@@ -9,7 +9,7 @@ use Rattle.chain.specs.declared.window.Window.{Window as Row}
 use Rattle.grammar.specs.Stream.{Window}
 use Rattle.grammar.specs.Tables.{null_byte}
 use Rattle.reader.specs.Windows.{windows_stop}
-use Rattle.reader.specs.Stream.{head_length, count_at}
+use Rattle.reader.specs.Stream.{head_length}
 use Rattle.tidy.specs.Spans.{Span, span, has, covered, values_of}
 use Rattle.reader.specs.Given.{windows_at}
 
@@ -175,17 +175,6 @@ pub record Ready (size : ℕ) (s : List ℕ) (n : ℕ) (xs : List Span) (places 
   pub end_is : end ≡ 6 + long_of xs
   pub fits : end < room
 
--- a stream that was read whole, n its windows; long is the length of the table for their spans, many that of the one for their ends. The size is
--- bounded, so that a place in the output is a number of two bytes
-pub record ReadWhole (size : ℕ) (s : List ℕ) (n long many : ℕ) : Type 0 where
-  pub head : head_length ≤ length s
-  pub count : n ≡ count_at s 0
-  pub whole : (windows_stop size s n head_length).number ≡ done
-  pub few : n ≤ long
-  pub table : long ≤ 255
-  pub ends : many ≡ 256
-  pub small : size ≤ 64000
-
--- the number that is left to give then
+-- the number that is left to give where a stream was read whole
 abbrev pub room_number : ℕ → ℕ → ℕ
 room_number long room = pick (ltb room long) too_short done

@@ -32,9 +32,7 @@ impl<'a> Given<'a> {
         ensures given { IfOk result (λ g. (g.size ≡ size_of kind) × (g.s.now ≡ s.now)) }
     {
         let size = Kind::try_from(kind)?.size();
-        if let Err(stopped) = read_stream(size, FIRST_MODE, s) {
-            return Err(stopped.refusal);
-        }
+        read_stream(size, FIRST_MODE, s).map_err(|stopped| stopped.refusal)?;
         Ok(Given {
             size,
             s,
