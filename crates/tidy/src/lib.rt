@@ -50,6 +50,7 @@ fn try_tidy(kind: u8, s: &[u8], out: &mut [u8]) -> Result<usize, Refusal>
 }
 
 // Tidies a stream for one device; what follows its postamble is not looked at.
+// Kept: C interface: at6000_tidy asks for the kind as a byte and answers a Written.
 pub fn tidy(kind: u8, s: &[u8], out: &mut [u8]) -> Written
     ensures { Tidies kind s.now out.old result out.new }
 {

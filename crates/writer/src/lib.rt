@@ -18,7 +18,7 @@ use chain::refusal::Refusal;
 use put::lead_in;
 use tables::Tables;
 
-// The same with the refusal itself.
+// The same as `write` with the refusal itself.
 fn try_write(
     kind: u8,
     mode: u8,
@@ -47,6 +47,7 @@ fn try_write(
 }
 
 // Writes the stream of these windows; `cells` is their data, one window's after another's.
+// Kept: C interface: at6000_write lends two tables and asks for kind and mode as bytes, and answers a Written.
 pub fn write(
     kind: u8,
     mode: u8,

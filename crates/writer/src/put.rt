@@ -12,8 +12,6 @@ use chain::mode::Mode;
 use chain::paper::*;
 use chain::window::Window;
 
-const NULL: u8 = 0x00;
-
 // What comes before the control byte: a preamble, after a null byte in the serial modes, and two of them in mode 6.
 #[tactic(auto, unfolding(crate::specs::Stream::lead_in))]
 pub(crate) fn lead_in(mode: Mode) -> &'static [u8]
@@ -21,7 +19,7 @@ pub(crate) fn lead_in(mode: Mode) -> &'static [u8]
     ensures short { length result.now ≤ 2 }
 {
     match mode {
-        Mode::SerialExternal | Mode::SerialInternal => &[NULL, PREAMBLE],
+        Mode::SerialExternal | Mode::SerialInternal => &[0x00, PREAMBLE],
         Mode::TwoPreambles => &[PREAMBLE, PREAMBLE],
         Mode::Upward | Mode::Downward | Mode::EpromInternal => &[PREAMBLE],
     }
