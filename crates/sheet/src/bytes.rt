@@ -36,6 +36,7 @@ impl BytesAfter<'_> {
         }
     }
 
+    // The byte that stands at `at`.
     pub fn byte(&self, at: usize) -> u8
         requires { at < length self.now.stream.now - (self.now.p + 7) / 8 }
         ensures { result ≡ byte_at self.now.stream.now (8 * (self.now.p / 8 + at) + bit_and self.now.p 7) }

@@ -27,26 +27,27 @@ fn load_pieces(c: Chain, mem: &mut [u8], s: &[u8], start: Bit, room: &mut [u8]) 
     ensures mem_after { mem.new ≡ (run_of (run c mem.old more) (bytes_after s.now (8 * start.byte + start.bit))).memory }
 {
     let n = s.len() - 1;
-    let mut d = c;
+    let mut chain = c;
     let mut at = start.byte;
     // Kept: no plainer: a piece is as long as it comes out, so that the next one's start is known only after it.
     while at < n {
-        let m = piece(s, Bit { byte: at, ..start }, room);
-        let f = taken(d, mem, &room[..m]);
-        if f.answer.number != MORE {
-            return f;
+        let length = piece(s, Bit { byte: at, ..start }, room);
+        let fed = taken(chain, mem, &room[..length]);
+        if fed.answer.number != MORE {
+            return fed;
         }
-        d = f.chain;
-        at += m;
+        chain = fed.chain;
+        at += length;
     }
     let answer = Answer {
         number: MORE,
-        taken: d.place.taken,
-        mismatches: d.place.mismatches,
+        taken: chain.place.taken,
+        mismatches: chain.place.mismatches,
     };
-    Fed { chain: d, answer }
+    Fed { chain, answer }
 }
 
+// However they stand in the slice.
 pub fn load(c: Chain, mem: &mut [u8], bytes: BytesAfter, room: &mut [u8]) -> Fed
     requires { 0 < length room.old }
     ensures value { result ≡ fed_of (run_of (run c mem.old more) (bytes_after bytes.entry.stream.now bytes.entry.p)) }

@@ -41,6 +41,7 @@ impl Sheet {
         }
     }
 
+    // In the order of the table.
     fn figures(self) -> [u32; FIGURES]
         ensures { result ≡ figures_of (self ∷ []) }
     {

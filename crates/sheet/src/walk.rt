@@ -41,6 +41,7 @@ impl Walked {
     }
 }
 
+// What there is to say of the stores that are left.
 pub fn walk(stores: Stores) -> Walked
     ensures { Walk (puts_left stores.entry.chain stores.entry.bytes.stream.now stores.entry.bytes.p stores.entry.at) stores.entry.size result }
 {
