@@ -9,7 +9,8 @@ use std::io;
 use std::io::{Read, Write};
 
 // Reads until the block is full, the input ends or a read fails. How many bytes stand at the front of the block, and whether a read failed.
-// Kept: promise of run: what came before a read that fails is written too, so the count stands beside the error, as read_exact does not tell it.
+// Kept: promise of the listing program (docs/DECISIONS.md): what came before a read that fails is written too, so the count stands beside the error.
+// read_exact tells none, and read_to_end takes memory.
 fn read_full<R: Read>(from: &mut R, block: &mut [u8]) -> (usize, io::Result<()>)
     ensures prefix_len { IsPrefixLen result.0 block.new }
     ensures bytes { Consumes (R.remaining from.old) (R.remaining from.new) (take result.0 block.new) }
