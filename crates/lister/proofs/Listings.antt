@@ -1,10 +1,12 @@
 -- What number 0 of a listing tells, and that the bytes taken fit in 32 bits. Assumes nothing.
 use Prim.Native.Nat.{ℕ, ◌^◌, ◌≤◌, ◌<◌}
-use mathlib.Core.Bool.{true, not}
+use mathlib.Core.Bool.{true, false, not}
 use mathlib.Core.Path.{◌≡◌, ◌∙◌}
 use mathlib.Core.List.{List}
 use native.Mathlib.Omega.{arith}
-use borrow.Author.Tests.{eqb-false, not-true}
+use borrow.Author.Tests.{ne_eqb, eqb-false, not-true}
+use Rattle.std.specs.Prelude.{Err}
+use Rattle.chain.proofs.PassedUp.{not_done}
 use lib.Dec.{eqb}
 use Rattle.chain.proofs.Means.{says, reads}
 use Rattle.chain.specs.Paper.{first_mode, two_preambles, done, bad_chain, bad_mode, too_short}
@@ -12,7 +14,8 @@ use Rattle.chain.specs.Rules.{from}
 use Rattle.chain.specs.Mode.{mode_number}
 use Rattle.chain.specs.declared.mode.Mode.{Mode}
 use Rattle.chain.specs.declared.mode.Mode.TheVariants.{Upward, Downward, SerialExternal, SerialInternal, EpromInternal, TwoPreambles}
-use Rattle.reader.specs.Stops.{Stop}
+use Rattle.reader.specs.Stops.{Stop, stop, stop_of}
+use Rattle.reader.specs.declared.stop.Stopped.{Stopped}
 use Rattle.reader.specs.Stream.{preamble_at, count_at, stream_stop}
 use Rattle.reader.proofs.Streams.{passes, row_below, Read, stream-done, stream-below}
 use Rattle.lister.specs.Listing.{any_shorter, list_stop}
@@ -27,6 +30,30 @@ mode_named EpromInternal n h = rw (← h)
 mode_named TwoPreambles n h = rw (← h)
 
 module _ (size mode : ℕ) (s : List ℕ) (a b c : ℕ) where
+  -- each refusal in turn, and none
+  pub stop_kind : size ≡ 0 → stop bad_chain 0 ≡ list_stop size mode s a b c
+  unfolding list_stop
+  stop_kind h = rw h
+
+  module _ (known : size ≡ 0 → ⊥) where
+    pub stop_mode : from first_mode two_preambles mode ≡ false → stop bad_mode 0 ≡ list_stop size mode s a b c
+    unfolding list_stop
+    stop_mode h = rw (ne_eqb size 0 known, h)
+
+    module _ (m : Mode) (named : mode_number m ≡ mode) where
+      pub stop_stream : (e : Stopped) → stop_of (Err e) ≡ stream_stop size mode s → stop_of (Err e) ≡ list_stop size mode s a b c
+      unfolding list_stop
+      stop_stream e h = simp (ne_eqb size 0 known, mode_named m mode named, ← h, not_done)
+
+      module _ (t : ℕ) (read : stop done t ≡ stream_stop size mode s) where
+        pub stop_room : any_shorter a b c (count_at s (preamble_at mode)) ≡ true → stop too_short t ≡ list_stop size mode s a b c
+        unfolding list_stop
+        stop_room h = simp (ne_eqb size 0 known, mode_named m mode named, ← read, h)
+
+        pub stop_none : any_shorter a b c (count_at s (preamble_at mode)) ≡ false → stop done t ≡ list_stop size mode s a b c
+        unfolding list_stop
+        stop_none h = simp (ne_eqb size 0 known, mode_named m mode named, ← read, h)
+
   pub record Listable : Type 0 where
     pub read : Read size mode s
     pub stream : list_stop size mode s a b c ≡ stream_stop size mode s

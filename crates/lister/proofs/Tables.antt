@@ -23,7 +23,7 @@ use Rattle.reader.specs.Stops.{Stop, stop, stop_of, if_done}
 use Rattle.reader.specs.Windows.{ReadWindow, windows_stop, windows_of, whole_of}
 use Rattle.reader.specs.Walk.{Next, windows_left}
 use Rattle.reader.specs.Stream.{preamble_at, count_at}
-use Rattle.lister.specs.Listing.{list_stop, listed_of, listing_of, starts_of, ends_of, offsets_of, listed, listing, Lists}
+use Rattle.lister.specs.Listing.{list_stop, listed_of, listing_of, starts_of, ends_of, offsets_of, listed, listing, refused_as, Lists}
 use Rattle.reader.proofs.Windows.{windows-length}
 use Rattle.reader.proofs.Walking.{left_none, left_more, next_near, next_past}
 use Rattle.lister.proofs.Listings.{list_done, list-below}
@@ -87,16 +87,7 @@ module _ (all : Windows) (p : ℕ) (starts₀ ends₀ offsets₀ : List ℕ) whe
         let e = left_none ws h in
         (sym (f.starts-rest ∙ rw e), sym (f.ends-rest ∙ rw e), sym (f.offsets-rest ∙ rw e))
 
--- ---- the call: nothing filled in, or all of it. size and p are what its parts answered
-
--- what filling the tables asks
-pub record MayFill (s starts ends offsets : List ℕ) (size p taken : ℕ) : Type 0 where
-  pub there : p + 6 ≤ length s
-  pub sound : (windows_stop size s (count_at s p) (p + 6)).number ≡ done
-  pub starts_fit : count_at s p ≤ length starts
-  pub ends_fit : count_at s p ≤ length ends
-  pub offsets_fit : count_at s p ≤ length offsets
-  pub small : taken < 2 ^ 32
+-- ---- the call: nothing filled in, or all of it
 
 module _ (size : ℕ) (s : List ℕ) (p : ℕ) (e : Stop) where
   listing_none : (e.number ≡ done → ⊥) → listing_of size s p e ≡ []
@@ -107,47 +98,36 @@ module _ (size : ℕ) (s : List ℕ) (p : ℕ) (e : Stop) where
   unfolding listing_of
   listing-all h = rw (eq-eqb e.number done h)
 
-module _ (kind mode : ℕ) (s starts ends offsets : List ℕ) (size p : ℕ) (sz : size ≡ size_of kind) (pa : p ≡ preamble_at mode) where
+module _ (kind mode : ℕ) (s starts ends offsets : List ℕ) (size : ℕ) (sz : size ≡ size_of kind) where
   -- where the reading stops
   abbrev stops : Stop → Type 0
   stops e = e ≡ list_stop size mode s (length starts) (length ends) (length offsets)
 
-  pub lists_none : (e : Stopped) (r : Listed) → stops (stop_of (Err e))
-      → r ≡ record { number = number_of e.refusal; windows = 0; control = 0; address = 0 ∷ 0 ∷ 0 ∷ []; taken = e.taken }
-      → Lists kind mode s starts ends offsets r starts ends offsets
+  pub lists_none : (e : Stopped) → stops (stop_of (Err e)) → Lists kind mode s starts ends offsets (refused_as e) starts ends offsets
   unfolding listed_of listing_of
-  lists_none e r ls an =
+  lists_none e ls =
       record {
-        answer = an ∙ simp (← sz, ← pa, ← ls, not_done);
-        starts_left = simp (← sz, ← pa, ← ls, not_done);
-        ends_left = simp (← sz, ← pa, ← ls, not_done);
-        offsets_left = simp (← sz, ← pa, ← ls, not_done);
+        answer = simp (← sz, ← ls, not_done);
+        starts_left = simp (← sz, ← ls, not_done);
+        ends_left = simp (← sz, ← ls, not_done);
+        offsets_left = simp (← sz, ← ls, not_done);
       }
 
-  pub may_fill : (taken : ℕ) → size ≤ 65535 → stops (stop done taken) → MayFill s starts ends offsets size p taken
-  may_fill taken l ls =
-      let d = list_done size mode s (length starts) (length ends) (length offsets) (sym (ap (λ (e : Stop). e.number) ls)) in
-      rw pa
-      (record {
-        there = d.read.head;
-        sound = d.read.windows;
-        starts_fit = d.starts_fit;
-        ends_fit = d.ends_fit;
-        offsets_fit = d.offsets_fit;
-        small = rw (ap (λ (e : Stop). e.taken) ls) (list-below size mode s (length starts) (length ends) (length offsets) l);
-      })
+  pub refused_small : (e : Stop) → size ≤ 65535 → stops e → e.taken < 2 ^ 32
+  refused_small e l ls = rw ls (list-below size mode s (length starts) (length ends) (length offsets) l)
 
-  pub lists_all : (taken : ℕ) (r : Listed) → stops (stop done taken) → r ≡ listed_of s p (stop done taken)
-      → Lists kind mode s starts ends offsets r (sets starts 0 (starts_of (windows_of size s (count_at s p) (p + 6))))
-      (sets ends 0 (ends_of (windows_of size s (count_at s p) (p + 6)))) (sets offsets 0 (offsets_of p (windows_of size s (count_at s p) (p + 6))))
-  unfolding listing_of
-  lists_all taken r ls an =
-      record {
-        answer = an ∙ rw (← sz, ← pa, ← ls);
-        starts_left = rw (← sz, ← pa, ← ls);
-        ends_left = rw (← sz, ← pa, ← ls);
-        offsets_left = rw (← sz, ← pa, ← ls);
-      }
+  module _ (p taken : ℕ) (pa : p ≡ preamble_at mode) where
+    pub lists_all : stops (stop done taken)
+        → Lists kind mode s starts ends offsets (listed_of s p (stop done taken)) (sets starts 0 (starts_of (windows_of size s (count_at s p) (p + 6))))
+        (sets ends 0 (ends_of (windows_of size s (count_at s p) (p + 6)))) (sets offsets 0 (offsets_of p (windows_of size s (count_at s p) (p + 6))))
+    unfolding listing_of
+    lists_all ls =
+        record {
+          answer = rw (← sz, ← pa, ← ls);
+          starts_left = rw (← sz, ← pa, ← ls);
+          ends_left = rw (← sz, ← pa, ← ls);
+          offsets_left = rw (← sz, ← pa, ← ls);
+        }
 
 -- ---- what the promise says of the tables: the windows listed, as many as are answered, and the rest as lent
 

@@ -1,12 +1,14 @@
 -- The window lister: what it answers, and what it leaves in its three tables. Assumes nothing.
-use Rattle.std.specs.Prelude.{ℕ, ◌+◌, ◌-◌, Bool, not, ◌||◌, ◌≡◌, List, [], ◌∷◌, map, length, get_or, eqb, ltb}
+use Rattle.std.specs.Prelude.{ℕ, ◌+◌, ◌-◌, Bool, not, ◌||◌, ◌≡◌, List, [], ◌∷◌, map, length, get_or, eqb, ltb, Result, Ok, Err}
 use Rattle.std.proofs.lemmas.List.Edits.{sets}
 use Rattle.chain.specs.Paper.{first_mode, two_preambles, done, bad_chain, bad_mode, too_short}
+use Rattle.chain.specs.Refusal.{number_of}
 use Rattle.chain.specs.Rules.{pick, from}
 use Rattle.chain.specs.Kinds.{size_of}
 use Rattle.reader.specs.Stops.{Stop, Row, ◌gives◌after◌, first_stop, if_done}
 use Rattle.reader.specs.Windows.{ReadWindow, windows_of}
 use Rattle.reader.specs.Stream.{preamble_at, head_length, control_at, count_at, stream_stop}
+use Rattle.reader.specs.declared.stop.Stopped.{Stopped}
 use Rattle.lister.specs.declared.Listed.{Listed}
 
 -- one of the tables, whose lengths are a, b and c, is shorter than n
@@ -63,3 +65,11 @@ module _ (kind mode : ℕ) (s starts ends offsets : List ℕ) where
     pub starts_left : starts' ≡ sets starts 0 (starts_of listing)
     pub ends_left : ends' ≡ sets ends 0 (ends_of listing)
     pub offsets_left : offsets' ≡ sets offsets 0 (offsets_of (preamble_at mode) listing)
+
+-- what is answered with a refusal: its number and the bytes taken
+abbrev pub refused_as : Stopped → Listed
+refused_as e = record { number = number_of e.refusal; windows = 0; control = 0; address = 0 ∷ 0 ∷ 0 ∷ []; taken = e.taken }
+
+abbrev pub answer_of : Result Listed Stopped → Listed
+answer_of (Ok r) = r
+answer_of (Err e) = refused_as e

@@ -1,16 +1,15 @@
 // The window lister: the windows of a stream for one freshly reset device.
 #![tactic(auto)]
 
-ghost use Rattle.std.specs.Prelude.{◌≡◌, [], ◌∷◌, ◌+◌, ◌^◌, ◌≤◌, ◌<◌, length};
+ghost use Rattle.std.specs.Prelude.{◌≡◌, ◌+◌, ◌^◌, ◌≤◌, ◌<◌, length, IfErr};
 ghost use Rattle.std.proofs.lemmas.List.Edits.{sets};
 ghost use Rattle.chain.specs.Paper.{done};
-ghost use Rattle.chain.specs.Refusal.{number_of};
-ghost use Rattle.reader.specs.Stops.{stop, stop_of};
+ghost use Rattle.reader.specs.Stops.{stop};
 ghost use Rattle.reader.specs.Stream.{head_length};
 ghost use Rattle.reader.specs.Walk.{windows_left};
-ghost use Rattle.lister.specs.Listing.{list_stop, listed_of, starts_of, ends_of, offsets_of, Lists};
+ghost use Rattle.lister.specs.Listing.{listed_of, starts_of, ends_of, offsets_of, refused_as, answer_of, Lists};
 
-use chain::kinds::size_of;
+use chain::kinds::Kind;
 use chain::mode::Mode;
 use chain::paper::*;
 use chain::refusal::Refusal;
@@ -29,30 +28,10 @@ pub struct Listed {
     pub taken: u32,
 }
 
-// The bytes taken of a stream that can be listed; a, b and c are the lengths of the tables.
-fn look(size: u16, mode: u8, s: &[u8], a: usize, b: usize, c: usize) -> Result<usize, Stopped>
-    ensures { stop_of result ≡ list_stop size mode s.now a b c }
-{
-    if size == 0 {
-        return Err(Stopped::from(Refusal::BadChain));
-    }
-    Mode::try_from(mode)?;
-    let taken = read_stream(size, mode, s)?;
-    let p = preamble_at(mode);
-    let n = (255 - s[p + 5]) as usize;
-    if (a < n) | (b < n) | (c < n) {
-        return Err(Stopped {
-            refusal: Refusal::TooShort,
-            taken,
-        });
-    }
-    Ok(taken)
-}
-
 // What is answered with a refusal.
 fn refused(e: Stopped) -> Listed
     requires { e.taken < 2 ^ 32 }
-    ensures { result ≡ record { number = number_of e.refusal; windows = 0; control = 0; address = 0 ∷ 0 ∷ 0 ∷ []; taken = e.taken } }
+    ensures { result ≡ refused_as e }
 {
     let address = [0; 3];
     Listed {
@@ -94,7 +73,36 @@ fn fill(windows: Windows, p: usize, starts: &mut [u16], ends: &mut [u16], offset
     }
 }
 
-// Lists a stream in a mode, read as a write; in modes 3 and 4 it is the hunted bytes. Two passes: nothing is written before the number is known to be 0.
+// What lists a stream, or refuses to. Two passes: nothing is written before the stream is known to be whole and to fit.
+fn listing(
+    kind: u8,
+    mode: u8,
+    s: &[u8],
+    starts: &mut [u16],
+    ends: &mut [u16],
+    offsets: &mut [u32],
+) -> Result<Listed, Stopped>
+    ensures lists { Lists kind mode s.now starts.old ends.old offsets.old (answer_of result) starts.new ends.new offsets.new }
+    ensures small { IfErr result (λ e. e.taken < 2 ^ 32) }
+{
+    let size = Kind::try_from(kind)?.size();
+    Mode::try_from(mode)?;
+    let taken = read_stream(size, mode, s)?;
+    let p = preamble_at(mode);
+    let left = 255 - s[p + 5];
+    let n = left as usize;
+    if (starts.len() < n) | (ends.len() < n) | (offsets.len() < n) {
+        return Err(Stopped {
+            refusal: Refusal::TooShort,
+            taken,
+        });
+    }
+    let at = p + HEAD_LENGTH;
+    fill(Windows { size, s, left, at }, p, starts, ends, offsets);
+    Ok(accepted(s, p, taken))
+}
+
+// Lists a stream in a mode, read as a write; in modes 3 and 4 it is the hunted bytes.
 pub fn list(
     kind: u8,
     mode: u8,
@@ -105,19 +113,5 @@ pub fn list(
 ) -> Listed
     ensures { Lists kind mode s.now starts.old ends.old offsets.old result starts.new ends.new offsets.new }
 {
-    let size = size_of(kind);
-    let p = preamble_at(mode);
-    match look(size, mode, s, starts.len(), ends.len(), offsets.len()) {
-        Err(e) => refused(e),
-        Ok(taken) => {
-            let windows = Windows {
-                size,
-                s,
-                left: 255 - s[p + 5],
-                at: p + HEAD_LENGTH,
-            };
-            fill(windows, p, starts, ends, offsets);
-            accepted(s, p, taken)
-        }
-    }
+    listing(kind, mode, s, starts, ends, offsets).unwrap_or_else(refused)
 }
