@@ -33,12 +33,11 @@ fn refused(e: Stopped) -> Listed
     requires { e.taken < 2 ^ 32 }
     ensures { result ≡ refused_as e }
 {
-    let address = [0; 3];
     Listed {
         number: e.refusal.number(),
         windows: 0,
         control: 0,
-        address,
+        address: [0; 3],
         taken: e.taken as u32,
     }
 }
@@ -48,16 +47,16 @@ fn accepted(s: &[u8], p: usize, taken: usize) -> Listed
     requires { (p + head_length ≤ length s.now) × (taken < 2 ^ 32) }
     ensures { result ≡ listed_of s.now p (stop done taken) }
 {
-    let address = [s[p + 2], s[p + 3], s[p + 4]];
     Listed {
         number: DONE,
-        windows: 255 - s[p + 5],
+        windows: NO_WINDOWS - s[p + 5],
         control: s[p + 1],
-        address,
+        address: [s[p + 2], s[p + 3], s[p + 4]],
         taken: taken as u32,
     }
 }
 
+// Kept: C interface: at6000_list is lent three tables, and they stay three down to the loop that fills them.
 // The tables of the windows, which are known to fit, the preamble before their control byte at p.
 fn fill(windows: Windows, p: usize, starts: &mut [u16], ends: &mut [u16], offsets: &mut [u32])
     requires { (p ≤ 1) × (windows.at ≡ p + head_length)
@@ -89,7 +88,7 @@ fn listing(
     Mode::try_from(mode)?;
     let taken = read_stream(size, mode, s)?;
     let p = preamble_at(mode);
-    let left = 255 - s[p + 5];
+    let left = NO_WINDOWS - s[p + 5];
     let n = left as usize;
     if (starts.len() < n) | (ends.len() < n) | (offsets.len() < n) {
         return Err(Stopped {

@@ -13,7 +13,9 @@ use Rattle.chain.proofs.PassedUp.{not_done}
 use Rattle.chain.proofs.Means.{Means, says, reads}
 use Rattle.chain.specs.Paper.{done, bad_start, bad_end, more}
 use Rattle.chain.specs.Rules.{pick}
-use Rattle.chain.specs.Window.{start_outside, end_outside}
+use Rattle.chain.specs.Window.{start_outside, end_outside, window_number}
+use Rattle.chain.specs.declared.refusal.Refusal.{Refusal}
+use Rattle.chain.specs.Refusal.{number_of}
 use Rattle.reader.specs.declared.stop.Stopped.{Stopped}
 use Rattle.reader.specs.declared.window.WholeWindow.{WholeWindow}
 use Rattle.reader.specs.Stops.{Stop, stop, stop_of}
@@ -63,6 +65,21 @@ module _ (size : ℕ) (s : List ℕ) (at : ℕ) where
       → read_window_of size s at ≡ record { number = done; start = start_at s at; end = end_at s at; first = at + 5; next = next_at s at }
   unfolding read_window_of
   read_whole e = rw e
+
+-- ---- a window tested, whose start is inside: its end refuses it, or nothing does
+
+module _ (size start end : ℕ) where
+  pub tested_bad : (e : Refusal) → start < size → number_of e ≡ window_number size start end → (number_of e ≡ bad_end) × (end_outside size start end ≡ true)
+  tested_bad e a h =
+      by_test (end_outside size start end)
+      (λ y. (h ∙ rw (lt-ltb start size a, y), y))
+      (λ y. let z : number_of e ≡ done = h ∙ rw (lt-ltb start size a, y) in absurd (eqb-false (number_of e) done (not_done e) z))
+
+  pub tested_good : start < size → done ≡ window_number size start end → end_outside size start end ≡ false
+  tested_good a h =
+      by_test (end_outside size start end)
+      (λ y. let z : done ≡ bad_end = h ∙ rw (lt-ltb start size a, y) in absurd (omega (arith, z)))
+      (λ y. y)
 
 -- ---- by cases
 

@@ -91,6 +91,6 @@ pub fn read_stream(size: u16, mode: u8, s: &[u8]) -> Result<usize, Stopped>
 {
     let first = head(mode, s)?;
     let p = preamble_at(mode);
-    let at = read_windows(size, s, 255 - s[p + 5], first)?;
+    let at = read_windows(size, s, NO_WINDOWS - s[p + 5], first)?;
     check(s[p + 1], s, at)
 }

@@ -30,10 +30,10 @@ pub fn read_window(size: u16, s: &[u8], at: usize) -> Result<WholeWindow, Stoppe
         return Err(Stopped::used_up(s));
     }
     let end = pair(s[at + 3], s[at + 4]);
-    if (end < start) | !(end < size) {
-        return Err(Stopped::refused(Refusal::BadEnd, at + 5));
-    }
     let bounds = Window { start, end };
+    if let Err(refusal) = bounds.tested(size) {
+        return Err(Stopped::refused(refusal, at + 5));
+    }
     let cells = bounds.width();
     if left - 5 < cells {
         return Err(Stopped::used_up(s));

@@ -129,7 +129,7 @@ fn mended(kind: u8, s: &[u8], out: &mut [u8]) -> Result<Salvaged, Refusal>
     if s[0] != PREAMBLE {
         return Err(Refusal::NoPreamble);
     }
-    let announced = 255 - s[5];
+    let announced = NO_WINDOWS - s[5];
     let mut reaches = [0u16; 255];
     let front = keep(size, s, announced, &mut reaches);
     let offset = front.offset;
