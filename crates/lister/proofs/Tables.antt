@@ -12,7 +12,6 @@ use Rattle.cells.proofs.Over.{sets-front}
 use Rattle.chain.proofs.ByCases.{by_test}
 use Rattle.chain.proofs.PassedUp.{not_done}
 use Rattle.chain.specs.Paper.{done}
-use Rattle.chain.specs.Refusal.{number_of}
 use Rattle.chain.specs.Kinds.{size_of}
 use Rattle.reader.specs.declared.stop.Stopped.{Stopped}
 use Rattle.reader.specs.declared.window.WholeWindow.{WholeWindow}
@@ -20,7 +19,7 @@ use Rattle.reader.specs.declared.whole.Windows.{Windows}
 use Rattle.lister.specs.declared.Listed.{Listed}
 use Rattle.std.specs.Prelude.{Err}
 use Rattle.reader.specs.Stops.{Stop, stop, stop_of, if_done}
-use Rattle.reader.specs.Windows.{ReadWindow, windows_stop, windows_of, whole_of}
+use Rattle.reader.specs.Windows.{ReadWindow, windows_of, whole_of}
 use Rattle.reader.specs.Walk.{Next, windows_left}
 use Rattle.reader.specs.Stream.{preamble_at, count_at}
 use Rattle.lister.specs.Listing.{list_stop, listed_of, listing_of, starts_of, ends_of, offsets_of, listed, listing, refused_as, Lists}

@@ -1,12 +1,11 @@
 -- What one step through windows that are known to be whole tells. Assumes nothing.
-use Prim.Native.Nat.{ℕ, ◌+◌, ◌-◌, ◌≤◌}
+use Prim.Native.Nat.{◌+◌, ◌-◌, ◌≤◌}
 use mathlib.Core.Path.{◌≡◌, sym, ap, ◌∙◌}
-use mathlib.Core.List.{List, [], ◌∷◌}
+use mathlib.Core.List.{[], ◌∷◌}
 use native.Mathlib.Omega.{arith}
-use lib.ListN.{length}
 use Rattle.reader.specs.declared.window.WholeWindow.{WholeWindow}
 use Rattle.reader.specs.declared.whole.Windows.{Windows}
-use Rattle.reader.specs.Windows.{ReadWindow, next_at, read_window_of, windows_of, whole_of}
+use Rattle.reader.specs.Windows.{ReadWindow, next_at, read_window_of, whole_of}
 use Rattle.reader.specs.Walk.{Next, windows_left}
 use Rattle.reader.proofs.Windows.{Whole, windows-first, windows-list-none, next_is, reach}
 

@@ -5,4 +5,3 @@ pub mod stop;
 pub mod stream;
 pub mod whole;
 pub mod window;
-

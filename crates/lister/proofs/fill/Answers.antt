@@ -1,8 +1,6 @@
-use Prim.Native.Nat.{◌+◌}
 use native.Mathlib.Omega.{arith}
 use mathlib.Core.Logic.{inl}
-use Rattle.std.specs.Iterator.Adapters.{enumerate_source, enumerate_count}
-use Rattle.reader.proofs.Walking.{first_is, left_whole}
+use Rattle.reader.proofs.Walking.{first_is}
 use Rattle.lister.proofs.Tables.{filling_more, filling_all}
 use Rattle.lister.proofs.fill.Goals as goal
 
