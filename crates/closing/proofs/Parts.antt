@@ -10,7 +10,7 @@ use Rattle.std.proofs.lemmas.List.{drop_at}
 use lib.ListN.{length, drop, length-append}
 use lib.Seq.{take_at, drop-drop}
 use Rattle.std.specs.Prelude.{Ok}
-use Rattle.closing.specs.Put.{Put}
+use Rattle.closing.specs.Put.{Put, told}
 
 -- a part laid behind a front of i bytes
 laid_behind : (a b o : List ℕ) (i : ℕ) → length a ≡ i → put_mid i (i + length b - i) (a ++ o) b ≡ (a ++ b) ++ drop (length b) o
@@ -24,7 +24,7 @@ module _ (a b d out : List ℕ) where
 
   -- x, y and z are what the parts of the output hold afterwards
   pub three_laid : (x y z : List ℕ) → x ≡ a → y ≡ b → z ≡ d → length a + length b + length d ≤ length out
-      → Put (a ++ (b ++ d)) out (Ok (length a + length b + length d))
+      → Put (a ++ (b ++ d)) out (told (Ok (length a + length b + length d)))
       (put_mid (length a + length b) (length a + length b + length d - (length a + length b))
       (put_mid (length a) (length a + length b - length a) (x ++ drop (length a) out) y) z)
   three_laid x y z e f g h =

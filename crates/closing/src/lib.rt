@@ -6,9 +6,8 @@ mod output;
 
 ghost use Rattle.std.specs.Prelude.{◌≡◌, ◌++◌, ◌≤◌, length};
 ghost use Rattle.closing.specs.Closing.{window, after_preamble, after_start, ends_below, after_end, closing_bytes};
-ghost use Rattle.chain.specs.Refusal.{answered, length_in};
 ghost use Rattle.closing.specs.Calls.{Closing};
-ghost use Rattle.closing.specs.Put.{Put};
+ghost use Rattle.closing.specs.Put.{Put, told};
 
 use crate::output::{part, put, put_three};
 use chain::eight::at8;
@@ -29,7 +28,7 @@ fn put_window(
     out: &mut [u8],
 ) -> Result<usize, Refusal>
     requires { length lead.now ≤ 1 }
-    ensures { Put (lead.now ++ window c mem.now w.start w.end) out.old result out.new }
+    ensures { Put (lead.now ++ window c mem.now w.start w.end) out.old (told result) out.new }
 {
     let ks = c.kinds;
     let at = base_of(ks, c.place.device) + usize::from(w.start);
@@ -42,7 +41,7 @@ fn put_window(
 
 // In a check 08 alone, refused with 7; in a write the rest of a stream without windows.
 fn put_after_preamble(c: Chain, out: &mut [u8]) -> Result<usize, Refusal>
-    ensures { Put (after_preamble c) out.old result out.new }
+    ensures { Put (after_preamble c) out.old (told result) out.new }
 {
     if c.place.check == CHECKING {
         return put(out, &[0x08]);
@@ -53,7 +52,7 @@ fn put_after_preamble(c: Chain, out: &mut [u8]) -> Result<usize, Refusal>
 }
 
 fn put_after_start(c: Chain, out: &mut [u8]) -> Result<usize, Refusal>
-    ensures { Put (after_start c) out.old result out.new }
+    ensures { Put (after_start c) out.old (told result) out.new }
 {
     if with_low(c.place.start, 0xff) < size_here(c) {
         return put(out, &[0xff, 0xff, 0xff]);
@@ -69,7 +68,7 @@ fn ends_below(p: Place) -> bool
 }
 
 fn put_after_end(c: Chain, mem: &[u8], out: &mut [u8]) -> Result<usize, Refusal>
-    ensures { Put (after_end c mem.now) out.old result out.new }
+    ensures { Put (after_end c mem.now) out.old (told result) out.new }
 {
     let p = c.place;
     if ends_below(p) {
@@ -89,7 +88,7 @@ fn put_after_end(c: Chain, mem: &[u8], out: &mut [u8]) -> Result<usize, Refusal>
 // The row of the awaited byte.
 #[tactic(auto, unfolding(crate::specs::Closing::closing_bytes))]
 fn put_row(c: Chain, mem: &[u8], out: &mut [u8]) -> Result<usize, Refusal>
-    ensures { Put (closing_bytes c mem.now) out.old result out.new }
+    ensures { Put (closing_bytes c mem.now) out.old (told result) out.new }
 {
     let p = c.place;
     let to_come = Window {
@@ -126,7 +125,7 @@ pub fn closing(c: Chain, mem: &[u8], out: &mut [u8]) -> Written
 
 // How many bytes close the open run.
 fn put_closing(c: Chain, mem: &[u8], out: &mut [u8]) -> Result<usize, Refusal>
-    ensures { Closing c mem.now out.old (record { number = answered result; length = length_in result }) out.new }
+    ensures { Closing c mem.now out.old (told result) out.new }
 {
     open(c, mem.len())?;
     put_row(c, mem, out)
