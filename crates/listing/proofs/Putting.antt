@@ -14,20 +14,16 @@ pub numbers_done : (ns : List ℕ) → numbers_of (drop (length ns) ns) ≡ line
 unfolding numbers_of
 numbers_done ns = ap numbers_of (drop-length ns)
 
--- window i and those after it
-pub windows_more : (n : ℕ) (ss es : List ℕ) (i : ℕ) → i < length ss → i < length es
-    → window_lines n (drop i ss) (drop i es) ≡ line_of letter_W (n ∷ get_or ss i 0 ∷ get_or es i 0 ∷ []) ++ window_lines (n + 1) (drop (i + 1) ss) (drop (i + 1) es)
-unfolding window_lines
-windows_more n ss es i h k = rw (drop-cons ss i 0 h, drop-cons es i 0 k, add-one i)
+-- a line that has room has room for the rest of it, where now is written of it: the number at hand, or the line feed
+module _ (ns : List ℕ) (i room : ℕ) (now before all : List ℕ) (e : now ++ numbers_of (drop i ns) ≡ before ++ all) (h : length before + length all ≤ room) where
+  rest_fits : length now + length (numbers_of (drop i ns)) ≤ room
+  rest_fits = omega (arith, simp length-append at (ap length e), h)
 
--- past the last none
-pub windows_done : (n : ℕ) (ss es : List ℕ) → window_lines n (drop (length ss) ss) es ≡ []
-unfolding window_lines
-windows_done n ss es = rw (drop-length ss)
+  pub number_fits : i < length ns → length now + (1 + length (decimal_of (get_or ns i 0))) ≤ room
+  number_fits l = omega (arith, rest_fits, simp length-append at (ap length (numbers_more ns i l)))
 
--- there is room for the rest of a whole that has room
-pub room_left : (now rest before all : List ℕ) (room : ℕ) → now ++ rest ≡ before ++ all → length before + length all ≤ room → length now + length rest ≤ room
-room_left now rest before all room e h = omega (arith, simp length-append at (ap length e), h)
+  pub feed_fits : i ≡ length ns → length now + 1 ≤ room
+  feed_fits l = omega (arith, rw l at rest_fits, ap length (numbers_done ns))
 
 -- one window's line more
 pub line_more : (n start end : ℕ) (starts ends now new whole : List ℕ) → new ≡ now ++ line_of letter_W (n ∷ start ∷ end ∷ [])
