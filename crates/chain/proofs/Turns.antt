@@ -1,8 +1,6 @@
 -- One turn of the loops over kinds, registers and cells. Assumes nothing.
 use Prim.Native.Nat.{ℕ, zero, suc, ◌+◌, ◌-◌, ◌<◌, ◌≤◌}
-use mathlib.Core.Bool.{Bool, true, false, not, ◌&&◌}
-use borrow.Author.Tests.{ne_eqb, le-leb}
-use lib.Dec.{leb}
+use mathlib.Core.Bool.{Bool, true, not, ◌&&◌}
 use mathlib.Core.Path.{◌≡◌, refl, ap, sym, ◌∙◌}
 use mathlib.Core.List.{List, [], ◌∷◌, ◌++◌, append_assoc, append-nil}
 use native.Mathlib.Numerals.{add-one}
@@ -98,26 +96,6 @@ first_filled xs ys n m eight least filled =
         let none : length xs - n ≡ 8 - m = omega (arith, whole, eight, h) in
         rw (none, take_all m xs (omega (arith, whole, eight)), take_all n xs (omega (arith, eight, h)))
 
--- the element i is past the first n, or not: what is left to look at after it
-from_n : (xs : List ℕ) (n i : ℕ) → n ≤ i → zeros (drop (n + (i - n)) xs) ≡ zeros (drop i xs)
+-- an element that is past the first n
+pub from_n : (xs : List ℕ) (n i : ℕ) → n ≤ i → zeros (drop (n + (i - n)) xs) ≡ zeros (drop i xs)
 from_n xs n i h = ap (λ (k : ℕ). zeros (drop k xs)) (omega (arith, h))
-
-pub unused_found : (xs : List ℕ) (n i : ℕ) → i < length xs → (n ≤ i) × (get_or xs i 0 ≡ 0 → ⊥) → zeros (drop (n + (i - n)) xs) ≡ false
-unused_found xs n i below (past, used) = from_n xs n i past ∙ zeros_turn xs i below ∙ ap (λ (b : Bool). b && zeros (drop (i + 1) xs)) (ne_eqb _ _ used)
-
-pub unused_turn : (xs : List ℕ) (n i : ℕ) → i < length xs → (leb n i && not (eqb (get_or xs i 0) 0)) ≡ false
-    → zeros (drop (n + (i - n)) xs) ≡ zeros (drop (n + (i + 1 - n)) xs)
-unused_turn xs n i below passed = each (cases_lt i n)
-  where
-    zero_there : (l b : Bool) → l ≡ true → (l && not b) ≡ false → b ≡ true
-    zero_there true true is h = refl
-    zero_there true false is h = sym h
-    zero_there false true is h = refl
-    zero_there false false is h = is
-
-    each : (i < n) ⊎ (n ≤ i) → zeros (drop (n + (i - n)) xs) ≡ zeros (drop (n + (i + 1 - n)) xs)
-    each (inl h) = ap (λ (k : ℕ). zeros (drop k xs)) (omega (arith, h))
-    each (inr h) =
-        from_n xs n i h ∙ zeros_turn xs i below
-        ∙ ap (λ (b : Bool). b && zeros (drop (i + 1) xs)) (zero_there (leb n i) (eqb (get_or xs i 0) 0) (le-leb n i h) passed)
-        ∙ sym (from_n xs n (i + 1) (omega (arith, h)))

@@ -26,8 +26,12 @@ pub fn with8(xs: [u8; 8], i: u8, v: u8) -> [u8; 8]
 pub fn unused_zero(xs: [u8; 8], n: u8) -> bool
     ensures { result ≡ unused_zero xs n }
 {
+    let first = usize::from(n);
     for (i, x) in xs.iter().enumerate() {
-        if (usize::from(n) <= i) & (*x != 0) {
+        if i < first {
+            continue;
+        }
+        if *x != 0 {
             return false;
         }
     }
