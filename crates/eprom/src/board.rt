@@ -60,7 +60,7 @@ impl Board {
     pub fn stays(&self, why: Refusal) -> Fetched
         ensures { result ≡ answers self.now.chain (number_of why) self.now.chain.place.taken self.now.chain.place.mismatches self.now.fetcher }
     {
-        Fetched::so_far(self.chain, self.fetcher, why)
+        Fetched::lent(self.chain, self.fetcher, why, self.chain.place)
     }
 
     // The bytes t, the first of them at the counter, as one block: the board goes on, or the answer of a run that is over with them. In line where it is called, which

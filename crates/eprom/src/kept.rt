@@ -53,7 +53,7 @@ pub fn is_astray(jump: Option<u32>) -> bool
 
 impl Fetcher {
     // Nothing kept but the counter.
-    pub fn fresh(counter: u32) -> Fetcher
+    pub(crate) fn fresh(counter: u32) -> Fetcher
         ensures { result ≡ fetcher_at counter }
     {
         Fetcher {
@@ -66,7 +66,7 @@ impl Fetcher {
 
     // The external address, low byte first.
     #[tactic(auto, unfolding(crate::specs::Kept::external_of))]
-    pub fn external(self) -> u32
+    pub(crate) fn external(self) -> u32
         ensures { result ≡ external_of self }
     {
         let a = self.address;

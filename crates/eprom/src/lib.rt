@@ -12,10 +12,10 @@ ghost use Rattle.eprom.specs.Calls.{answers, fetch_number, unfetched, FetcherNew
 
 use crate::board::Board;
 use crate::counter::{LAST_COUNT, home, is_fetched};
-use chain::Chain;
 use chain::paper::*;
 use chain::refusal::Refusal;
 use chain::state::sound;
+use chain::{Chain, Place, closed_place};
 use machine::{Answer, Fed};
 
 // What a stop keeps beside the saved place: the counter, the first device's control byte and external address, low byte first, zero until taken, and whether
@@ -51,27 +51,15 @@ impl Fetched {
         }
     }
 
-    // All as lent, with counts.
-    fn counted(c: Chain, f: Fetcher, why: Refusal, taken: u32, mismatches: u32) -> Fetched
-        ensures { result ≡ answers c (number_of why) taken mismatches f }
+    // All as lent, with a number and the counts of a place.
+    fn lent(c: Chain, f: Fetcher, why: Refusal, p: Place) -> Fetched
+        ensures { result ≡ answers c (number_of why) p.taken p.mismatches f }
     {
-        let answer = Answer {
-            number: why.number(),
-            taken,
-            mismatches,
-        };
         Fetched {
             chain: c,
-            answer,
+            answer: Answer::new(why.number(), p),
             fetcher: f,
         }
-    }
-
-    // With the run's counts so far.
-    fn so_far(c: Chain, f: Fetcher, why: Refusal) -> Fetched
-        ensures { result ≡ answers c (number_of why) c.place.taken c.place.mismatches f }
-    {
-        Fetched::counted(c, f, why, c.place.taken, c.place.mismatches)
     }
 }
 
@@ -105,8 +93,8 @@ fn not_fetched(c: Chain, f: Fetcher, why: Refusal) -> Fetched
     ensures { result ≡ unfetched c f (number_of why) }
 {
     match why {
-        Refusal::BadMode => Fetched::so_far(c, f, why),
-        _ => Fetched::counted(c, f, why, 0, 0),
+        Refusal::BadMode => Fetched::lent(c, f, why, c.place),
+        _ => Fetched::lent(c, f, why, closed_place()),
     }
 }
 
