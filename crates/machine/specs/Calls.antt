@@ -1,5 +1,7 @@
 -- Start, byte and slice: what each answers and leaves. Assumes nothing.
-use Rattle.std.specs.Prelude.{◌≡◌, ℕ, not, List, [], ◌∷◌, length, ◌==◌, nat_eq}
+use Rattle.std.specs.Prelude.{◌≡◌, ◌≢◌, ℕ, not, List, [], ◌∷◌, length, ◌==◌, nat_eq}
+use Rattle.std.specs.declared.ops.ControlFlow.{ControlFlow}
+use Rattle.std.specs.declared.ops.ControlFlow.TheVariants.{Continue, Break}
 use Rattle.chain.specs.declared.Chain.{Chain}
 use Rattle.chain.specs.declared.Place.{Place}
 use Rattle.chain.specs.declared.Made.{Made}
@@ -77,6 +79,11 @@ ahead_of c b =
       chain = pick (number_of c b == more) (gone_on c 0 b) (ended c);
       number = number_of c b;
     }
+
+-- as the code has it: the run goes on, or it is over with another number than 16
+abbrev pub Ahead : ControlFlow Made Chain → Made → Type 0
+Ahead (Continue d) r = r ≡ record { chain = d; number = more }
+Ahead (Break q) r = (r ≡ q) × (r.number ≢ more)
 
 -- and which pass over n data bytes of the window at once: where the run would stand, as if each cell held its byte
 unfoldable pub past_of : Chain → ℕ → Chain

@@ -11,7 +11,7 @@ ghost use Rattle.chain.specs.Refusal.{number_of, answered as given_number};
 ghost use Rattle.chain.specs.Set.{with_place};
 ghost use Rattle.machine.specs.Run.{run, run_of};
 ghost use Rattle.machine.specs.Block.{headed_of};
-ghost use Rattle.machine.specs.Calls.{Start, Slice, Byte, Drop, answered, unfed, start_number, opened_place, fed_of, refuse_of, ahead_of, past_of};
+ghost use Rattle.machine.specs.Calls.{Start, Slice, Byte, Drop, answered, unfed, start_number, opened_place, fed_of, refuse_of, Ahead, ahead_of, past_of};
 
 use crate::bulk::{headed, past};
 use crate::run::{ended, feed, gone_on, over};
@@ -160,17 +160,14 @@ pub fn refuse(c: Chain, n: u8) -> Fed
     }
 }
 
-// For calls above the machine: the number of a byte that is not fed yet, and where the run would stand after it.
-pub fn ahead(c: Chain, b: u8) -> Made
-    ensures { result ≡ ahead_of c b }
+// For calls above the machine: what a byte would do that is not fed yet. The run stands elsewhere, or is over with a number.
+pub fn ahead(c: Chain, b: u8) -> ControlFlow<Made, Chain>
+    ensures { Ahead result (ahead_of c b) }
 {
     match given(c, b) {
-        ControlFlow::Continue(()) => Made {
-            chain: gone_on(c, 0, b),
-            number: MORE,
-        },
-        ControlFlow::Break(Ok(())) => Made::done(ended(c)),
-        ControlFlow::Break(Err(e)) => Made::refused(ended(c), e),
+        ControlFlow::Continue(()) => ControlFlow::Continue(gone_on(c, 0, b)),
+        ControlFlow::Break(Ok(())) => ControlFlow::Break(Made::done(ended(c))),
+        ControlFlow::Break(Err(e)) => ControlFlow::Break(Made::refused(ended(c), e)),
     }
 }
 
@@ -182,8 +179,8 @@ pub fn past_data(c: Chain, n: u32) -> Chain
 }
 
 // And after the null byte, start and end of a window that the device has.
-pub fn past_header(c: Chain, start: u16, end: u16) -> Chain
-    ensures { result ≡ with_place c (headed_of c.place start end) }
+pub fn past_header(c: Chain, window: Window) -> Chain
+    ensures { result ≡ with_place c (headed_of c.place window.start window.end) }
 {
-    headed(c, Window { start, end })
+    headed(c, window)
 }

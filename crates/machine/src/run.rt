@@ -49,6 +49,7 @@ fn registers_after(c: Chain, b: u8) -> [u8; 8]
 }
 
 // In a write a data byte is stored.
+// Kept: proof: tried `if let Some(cell) = mem.get_mut(address(c))`; that the other cells are as they were stayed open.
 fn store(c: Chain, mem: &mut [u8], b: u8)
     ensures { mem.new ≡ memory_of c mem.old b }
 {

@@ -9,7 +9,7 @@ use crate::bytes::BytesAfter;
 use chain::Chain;
 use chain::paper::*;
 use hunt::{Bit, piece};
-use machine::{Answer, Fed, taken};
+use machine::{Fed, taken};
 
 // All at once, from byte q on.
 fn load_rest(c: Chain, mem: &mut [u8], s: &[u8], q: usize) -> Fed
@@ -39,12 +39,7 @@ fn load_pieces(c: Chain, mem: &mut [u8], s: &[u8], start: Bit, room: &mut [u8]) 
         chain = fed.chain;
         at += length;
     }
-    let answer = Answer {
-        number: MORE,
-        taken: chain.place.taken,
-        mismatches: chain.place.mismatches,
-    };
-    Fed { chain, answer }
+    Fed::going_on(chain)
 }
 
 // However they stand in the slice.

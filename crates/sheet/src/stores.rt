@@ -8,7 +8,7 @@ use chain::Chain;
 use chain::paper::*;
 use chain::window::Window;
 use machine::{ahead, past_data, past_header};
-use std::ops::Range;
+use std::ops::{ControlFlow, Range};
 
 // The run at chain is a write into a device of so many cells, and takes the bytes from the byte `at` on.
 #[derive(Clone, Copy)]
@@ -60,14 +60,13 @@ impl Iterator for Stores<'_> {
                 return Some(start..start + have);
             }
             if let Some(window) = self.window() {
-                self.chain = past_header(self.chain, window.start, window.end);
+                self.chain = past_header(self.chain, window);
                 self.at += 5;
             } else {
-                let made = ahead(self.chain, self.bytes.byte(self.at));
-                if made.number != MORE {
+                let ControlFlow::Continue(next) = ahead(self.chain, self.bytes.byte(self.at)) else {
                     return None;
-                }
-                self.chain = made.chain;
+                };
+                self.chain = next;
                 self.at += 1;
             }
         }

@@ -85,4 +85,4 @@ returns c =
     let s = a.s.now in
     let n = length s - 1 in
     let w = ap (run_of (run a.c a.mem.now more)) (all_from_lem s a.start.byte a.start.bit c.requires.0 c.requires.1 c.requires.2) ∙ c.loop-at.invariant.3 ∙ rest-none s a.start.bit n c.loop-at.at (omega arith) c.loop-at.chain c.loop-at.mem in
-    record { value = fed_is c.loop-at.chain c.loop-at.mem ∙ ap fed_of (sym w); mem_after = ap (λ (x : Run). x.memory) (sym w) }
+    record { value = c.going_on.ensures ∙ fed_is c.loop-at.chain c.loop-at.mem ∙ ap fed_of (sym w); mem_after = ap (λ (x : Run). x.memory) (sym w) }

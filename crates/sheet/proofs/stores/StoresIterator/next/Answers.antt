@@ -1,4 +1,6 @@
-use Rattle.std.proofs.Common.{arith, ◌∙◌, ◌+◌, ◌-◌, ◌/◌, ℕ, length, bit_and}
+use Rattle.std.proofs.Common.{arith, sym, refl, ◌∙◌, ◌+◌, ◌-◌, ◌/◌, ℕ, length, bit_and}
+use Rattle.chain.specs.declared.Made.{Made}
+use Rattle.chain.specs.Paper.{more}
 use Rattle.sheet.proofs.Stored.{writing_past}
 use Rattle.sheet.proofs.Frames.{one_framing, one-over, window_framing}
 use Rattle.sheet.proofs.WalkTurns.{none_left, data_part, part_after}
@@ -40,15 +42,14 @@ loop-self-preserved-in-Some c =
     let f = window_framing s.chain s.size s.bytes.stream.now s.bytes.p s.at _ _ _ s.writing x c.past_header-self.ensures in
     record { size = v.size; bytes = v.bytes; further = omega (arith, v.further); left = v.left ∙ f.on }
 
-pub returns-then-made-ne-MORE-clause-steps : goal.returns-then-made-ne-MORE-clause-steps
-returns-then-made-ne-MORE-clause-steps c =
+pub returns-in_default-ahead-clause-steps : goal.returns-in_default-ahead-clause-steps
+returns-in_default-ahead-clause-steps c =
     let s = c.loop-self.self in
     let v = c.loop-self.invariant in
     let p = s.bytes.p in
     let n : ℕ = length s.bytes.stream.now - (p + 7) / 8 in
     let z =
-    one-over s.chain s.size s.writing s.bytes.stream.now (p / 8) (bit_and p 7) n s.at (omega arith) c.byte.result c.byte.ensures c.ahead-made.result c.ahead-made.ensures
-    c.if-made-ne-MORE.true in
+    one-over s.chain s.size s.writing s.bytes.stream.now (p / 8) (bit_and p 7) n s.at (omega arith) c.byte.result c.byte.ensures _ refl c.in_default-ahead.ensures.1 in
     (v.size, v.bytes, v.left ∙ z)
 
 pub invariant_of-self-in_default : goal.invariant_of-self-in_default
@@ -56,9 +57,10 @@ invariant_of-self-in_default c =
     let s = c.loop-self.self in
     let p = s.bytes.p in
     let n : ℕ = length s.bytes.stream.now - (p + 7) / 8 in
+    let a : Made = record { chain = c.in-Continue.next; number = more } in
     let f =
     one_framing s.chain s.size s.writing s.bytes.stream.now (p / 8) (bit_and p 7) n s.at (omega arith) c.byte.result c.byte.type_inv c.byte.ensures
-    c.if-self-eq-AT_DATA.false c.ahead-made.result c.ahead-made.ensures c.if-made-ne-MORE.false in
+    c.if-self-eq-AT_DATA.false a (sym c.in-Continue.ensures) refl in
     record { writing = f.write; within = omega arith }
 
 pub loop-self-preserved : goal.loop-self-preserved
@@ -67,9 +69,10 @@ loop-self-preserved c =
     let v = c.loop-self.invariant in
     let p = s.bytes.p in
     let n : ℕ = length s.bytes.stream.now - (p + 7) / 8 in
+    let a : Made = record { chain = c.in-Continue.next; number = more } in
     let f =
     one_framing s.chain s.size s.writing s.bytes.stream.now (p / 8) (bit_and p 7) n s.at (omega arith) c.byte.result c.byte.type_inv c.byte.ensures
-    c.if-self-eq-AT_DATA.false c.ahead-made.result c.ahead-made.ensures c.if-made-ne-MORE.false in
+    c.if-self-eq-AT_DATA.false a (sym c.in-Continue.ensures) refl in
     record { size = v.size; bytes = v.bytes; further = omega (arith, v.further); left = v.left ∙ f.on }
 
 pub returns-clause-steps : goal.returns-clause-steps
