@@ -1,13 +1,13 @@
--- A call that writes, by its result: the stream written and its length, or a refusal and nothing written. Assumes nothing.
-use Rattle.std.proofs.Common.{◌≡◌, ℕ, List, length, ◌∙◌, Result, Ok, Err, OnOk, OnErr, IfOk}
-use Rattle.chain.specs.declared.Written.{Written}
+-- A call that writes, by how it ends: refused, with nothing written, or done. Assumes nothing.
+use Rattle.std.proofs.Common.{◌≡◌, ℕ, List, length, sym, ◌∙◌}
 use Rattle.chain.specs.declared.refusal.Refusal.{Refusal}
+use Rattle.chain.specs.Paper.{done}
 use Rattle.chain.specs.Output.{over, Writes}
-use Rattle.chain.specs.Refusal.{answered, length_in}
+use Rattle.chain.specs.Refusal.{number_of}
 use Rattle.chain.proofs.PassedUp.{not_done}
 
-pub wrote : (n : ℕ) (s out out' : List ℕ) (q : Result ℕ Refusal) (w : Written) → answered q ≡ n
-    → OnOk q (out' ≡ over s out) → IfOk q (λ m. m ≡ length s) → OnErr q (out' ≡ out)
-    → w ≡ record { number = answered q; length = length_in q } → Writes n s out w out'
-wrote n s out out' (Ok m) w z o l r e = record { answer = e ∙ rw (← z, l); output = rw (← z) o }
-wrote n s out out' (Err x) w z o l r e = record { answer = e ∙ rw (← z, not_done x); output = rw (← z, not_done x) r }
+pub refused : (n : ℕ) (s out : List ℕ) (e : Refusal) → number_of e ≡ n → Writes n s out (record { number = number_of e; length = 0 }) out
+refused n s out e h = record { answer = rw (← h, not_done e); output = rw (← h, not_done e) }
+
+pub wrote : (n : ℕ) (s out out' : List ℕ) (m : ℕ) → done ≡ n → m ≡ length s → out' ≡ over s out → Writes n s out (record { number = done; length = m }) out'
+wrote n s out out' m h l w = record { answer = rw (← h, l); output = rw (← h) w }

@@ -5,11 +5,8 @@ mod blocks;
 mod put;
 mod tables;
 
-ghost use Rattle.std.specs.Prelude.{◌≡◌, ◌+◌, ◌*◌, length, IfOk, OnOk, OnErr};
-ghost use Rattle.chain.specs.Refusal.{answered};
-ghost use Rattle.writer.specs.Stream.{lead_in, stream_of};
-ghost use Rattle.writer.specs.Write.{Write, number_of, sum_of};
-ghost use Rattle.chain.specs.Output.{over};
+ghost use Rattle.chain.specs.Refusal.{answered, length_in};
+ghost use Rattle.writer.specs.Write.{Write};
 
 use chain::Written;
 use chain::kinds::Kind;
@@ -29,10 +26,8 @@ fn try_write(
     cells: &[u8],
     out: &mut [u8],
 ) -> Result<usize, Refusal>
-    ensures number { answered result ≡ number_of kind mode starts.now ends.now (length cells.now) (length (lead_in mode) + 6 + 5 * length starts.now + sum_of starts.now ends.now) (length out.old) }
-    ensures done { OnOk result (out.new ≡ over (stream_of mode control address starts.now ends.now cells.now) out.old) }
-    ensures length { IfOk result (λ n. n ≡ length (stream_of mode control address starts.now ends.now cells.now)) }
-    ensures refused { OnErr result (out.new ≡ out.old) }
+    ensures { Write kind mode control address starts.now ends.now cells.now out.old
+        (record { number = answered result; length = length_in result }) out.new }
 {
     let size = Kind::try_from(kind)?.size();
     let mode = Mode::try_from(mode)?;
