@@ -4,13 +4,15 @@ use mathlib.Core.Path.{◌≡◌, sym, ap, ◌∙◌}
 use mathlib.Core.List.{List, ◌++◌}
 use native.Mathlib.Omega.{arith}
 use borrow.Author.Tests.{ne_eqb, eqb-false, lt-ltb, le-ltb}
-use lib.Dec.{eqb}
+use lib.Dec.{eqb, ltb}
 use lib.ListN.{length, take, length-append}
 use lib.Seq.{length-take-le, take-append-le}
-use Rattle.std.specs.Prelude.{Result, Ok, Err, OnOk, OnErr, IfOk}
+use mathlib.Core.Path.{subst}
+use mathlib.Core.Bool.{false}
 use Rattle.chain.specs.declared.Written.{Written}
 use Rattle.chain.specs.declared.refusal.Refusal.{Refusal}
-use Rattle.chain.specs.Refusal.{answered, length_in, number_of as refusal_number}
+use Rattle.chain.specs.declared.refusal.Refusal.TheVariants.{TooShort}
+use Rattle.chain.specs.Refusal.{number_of as refusal_number}
 use Rattle.chain.specs.Rules.{pick}
 use Rattle.chain.proofs.ByCases.{by_test}
 use Rattle.chain.proofs.PassedUp.{not_done}
@@ -23,11 +25,14 @@ use Rattle.reader.specs.Windows.{windows_stop}
 use Rattle.reader.specs.Stream.{preamble_at, head_length, count_at, stream_stop}
 use Rattle.reader.proofs.Streams.{stream-done}
 use Rattle.reader.specs.Given.{windows_at}
-use Rattle.tidy.specs.Tidy.{last_byte, tidied, tidy_number}
+use Rattle.tidy.specs.Tidy.{last_byte, tidied, tidy_number, Tidies}
 use Rattle.chain.specs.declared.window.Window.{Window as Row}
 use Rattle.tidy.specs.Steps.{spans_in, Gathered, long_of, AtPlaces, laid_out, Ready, room_number}
 use Rattle.tidy.proofs.Lengths.{in_length}
 use Rattle.tidy.proofs.Whole.{laid_is, laid-length}
+
+refused : (n : ℕ) (bytes out : List ℕ) (e : Refusal) → refusal_number e ≡ n → Writes n bytes out (record { number = refusal_number e; length = 0 }) out
+refused n bytes out e h = record { answer = rw (← h, not_done e); output = rw (← h, not_done e) }
 
 -- ---- a stream that was read whole
 
@@ -64,14 +69,12 @@ module _ (g : Given) (few : g.n ≤ 255) (front back rest : List Row) (places ou
     is : laid_out g.s.now (spans_in spans) (last_byte (windows_at g.size g.s.now g.n head_length)) ≡ tidied g.size g.s.now
     is = laid_is g.size g.s.now g.n (spans_in spans) g.count gathered
 
-    pub long : end + 1 ≡ length (tidied g.size g.s.now)
+    long : end + 1 ≡ length (tidied g.size g.s.now)
     long = sym (sym (ap length is) ∙ laid-length g.s.now (spans_in spans) (last_byte (windows_at g.size g.s.now g.n head_length)) ∙ omega arith)
 
-    pub no_room : length out ≤ end → too_short ≡ room_number (length (tidied g.size g.s.now)) (length out)
-    no_room h = rw (lt-ltb (length out) (length (tidied g.size g.s.now)) (omega (arith, long)))
-
-    pub room : end < length out → done ≡ room_number (length (tidied g.size g.s.now)) (length out)
-    room h = rw (le-ltb (length out) (length (tidied g.size g.s.now)) (omega (arith, long)))
+    pub no_room : length out ≤ end
+        → Writes (room_number (length (tidied g.size g.s.now)) (length out)) (tidied g.size g.s.now) out (record { number = too_short; length = 0 }) out
+    no_room h = refused _ _ out TooShort (rw (lt-ltb (length out) (length (tidied g.size g.s.now)) (omega (arith, long))))
 
     pub ready : length places ≡ 256 → end < length out → Ready g.size g.s.now g.n (spans_in spans) places end (length out)
     ready t h =
@@ -86,41 +89,41 @@ module _ (g : Given) (few : g.n ≤ 255) (front back rest : List Row) (places ou
           fits = h;
         }
 
-    pub written : (out' : List ℕ) → out' ≡ over (laid_out g.s.now (spans_in spans) (last_byte (windows_at g.size g.s.now g.n head_length))) out
-        → out' ≡ over (tidied g.size g.s.now) out
-    written out' w = w ∙ rw is
+    pub written : (out' : List ℕ) → end < length out → out' ≡ over (laid_out g.s.now (spans_in spans) (last_byte (windows_at g.size g.s.now g.n head_length))) out
+        → Writes (room_number (length (tidied g.size g.s.now)) (length out)) (tidied g.size g.s.now) out (record { number = done; length = end + 1 }) out'
+    written out' h w =
+        let r : ltb (length out) (length (tidied g.size g.s.now)) ≡ false = le-ltb (length out) (length (tidied g.size g.s.now)) (omega (arith, long)) in
+        record { answer = rw (r, long); output = w ∙ rw (r, is) }
 
 -- ---- the whole call, by what reading answers
 
-module _ (kind : ℕ) (s : List ℕ) (room : ℕ) where
+module _ (kind : ℕ) (s out : List ℕ) where
   abbrev stop : ℕ
   stop = (stream_stop (size_of kind) first_mode s).number
 
-  refusing : (e : Refusal) → refusal_number e ≡ done → ⊥
-  refusing e = eqb-false (refusal_number e) done (not_done e)
-
-  pub not_read : (e : Refusal) → refusal_number e ≡ pick (eqb (size_of kind) 0) bad_chain stop → refusal_number e ≡ tidy_number kind s room
+  number-passed : (e : Refusal) → refusal_number e ≡ pick (eqb (size_of kind) 0) bad_chain stop → refusal_number e ≡ tidy_number kind s (length out)
   unfolding tidy_number
-  not_read e h =
+  number-passed e h =
       by_test (eqb (size_of kind) 0)
       (λ p. h ∙ rw p)
       (λ p.
       let q : refusal_number e ≡ stop = h ∙ rw p in
-      q ∙ rw (p, ne_eqb stop done (λ z. refusing e (q ∙ z))))
+      q ∙ rw (p, ne_eqb stop done (λ z. eqb-false (refusal_number e) done (not_done e) (q ∙ z))))
 
-  pub was_read : done ≡ pick (eqb (size_of kind) 0) bad_chain stop → room_number (length (tidied (size_of kind) s)) room ≡ tidy_number kind s room
+  pub not_read : (e : Refusal) → refusal_number e ≡ pick (eqb (size_of kind) 0) bad_chain stop → Tidies kind s out (record { number = refusal_number e; length = 0 }) out
+  not_read e h = refused (tidy_number kind s (length out)) (tidied (size_of kind) s) out e (number-passed e h)
+
+  number-room : done ≡ pick (eqb (size_of kind) 0) bad_chain stop → room_number (length (tidied (size_of kind) s)) (length out) ≡ tidy_number kind s (length out)
   unfolding tidy_number
-  was_read h =
+  number-room h =
       by_test (eqb (size_of kind) 0)
       (λ p. let z : done ≡ bad_chain = h ∙ rw p in absurd (omega (arith, z)))
       (λ p.
       let q : done ≡ stop = h ∙ rw p in
       rw (p, ← q))
 
--- ---- answered
-
-pub wrote : (n : ℕ) (bytes out out' : List ℕ) (q : Result ℕ Refusal) (w : Written) → answered q ≡ n
-    → OnOk q (out' ≡ over bytes out) → IfOk q (λ m. m ≡ length bytes) → OnErr q (out' ≡ out)
-    → w ≡ record { number = answered q; length = length_in q } → Writes n bytes out w out'
-wrote n bytes out out' (Ok m) w z o l r e = record { answer = e ∙ rw (← z, l); output = rw (← z) o }
-wrote n bytes out out' (Err x) w z o l r e = record { answer = e ∙ rw (← z, not_done x); output = rw (← z, not_done x) r }
+  pub was_read : (size : ℕ) (w : Written) (out' : List ℕ) → done ≡ pick (eqb (size_of kind) 0) bad_chain stop → size ≡ size_of kind
+      → Writes (room_number (length (tidied size s)) (length out)) (tidied size s) out w out' → Tidies kind s out w out'
+  was_read size w out' h z t =
+      let P : ℕ → Type 0 = λ n. Writes n (tidied (size_of kind) s) out w out' in
+      subst P (number-room h) (rw z at t)

@@ -7,11 +7,10 @@ mod lay;
 mod sort;
 mod spans;
 
-ghost use Rattle.std.specs.Prelude.{◌≡◌, length, IfOk, OnOk, OnErr};
-ghost use Rattle.chain.specs.Kinds.{size_of};
-ghost use Rattle.chain.specs.Output.{over};
-ghost use Rattle.chain.specs.Refusal.{answered};
-ghost use Rattle.tidy.specs.Tidy.{tidied, tidy_number, Tidies};
+ghost use Rattle.std.specs.Prelude.{length};
+ghost use Rattle.chain.specs.Output.{Writes};
+ghost use Rattle.chain.specs.Refusal.{answered, length_in};
+ghost use Rattle.tidy.specs.Tidy.{tidied, Tidies};
 ghost use Rattle.tidy.specs.Steps.{room_number};
 
 use chain::Written;
@@ -21,10 +20,8 @@ use given::Given;
 
 // The tidied stream of a given one, where it has room.
 fn write(given: Given<'_>, out: &mut [u8]) -> Result<usize, Refusal>
-    ensures number { answered result ≡ room_number (length (tidied given.entry.size given.entry.s.now)) (length out.old) }
-    ensures done { OnOk result (out.new ≡ over (tidied given.entry.size given.entry.s.now) out.old) }
-    ensures length { IfOk result (λ n. n ≡ length (tidied given.entry.size given.entry.s.now)) }
-    ensures refused { OnErr result (out.new ≡ out.old) }
+    ensures { Writes (room_number (length (tidied given.entry.size given.entry.s.now)) (length out.old)) (tidied given.entry.size given.entry.s.now) out.old
+        (record { number = answered result; length = length_in result }) out.new }
 {
     let mut table = [Window { start: 0, end: 0 }; 255];
     let mut places = [0; 256];
@@ -40,10 +37,7 @@ fn write(given: Given<'_>, out: &mut [u8]) -> Result<usize, Refusal>
 
 // The same as `tidy` with the refusal itself.
 fn try_tidy(kind: u8, s: &[u8], out: &mut [u8]) -> Result<usize, Refusal>
-    ensures number { answered result ≡ tidy_number kind s.now (length out.old) }
-    ensures done { OnOk result (out.new ≡ over (tidied (size_of kind) s.now) out.old) }
-    ensures length { IfOk result (λ n. n ≡ length (tidied (size_of kind) s.now)) }
-    ensures refused { OnErr result (out.new ≡ out.old) }
+    ensures { Tidies kind s.now out.old (record { number = answered result; length = length_in result }) out.new }
 {
     let given = Given::read(kind, s)?;
     write(given, out)

@@ -1,15 +1,17 @@
-use Rattle.std.proofs.Common.{rules, ◌≡◌, ◌∙◌, length}
-use Rattle.chain.specs.Refusal.{answered, number_of as refusal_number}
+use Rattle.std.proofs.Common.{rules, ◌≡◌, Err}
+use Rattle.chain.specs.declared.refusal.Refusal.{Refusal}
 use Rattle.tidy.proofs.Answers.{not_read, was_read}
 use Rattle.tidy.proofs.try_tidy.Goals as goal
 
-pub returns-in_err-given-clause-number : goal.returns-in_err-given-clause-number
-returns-in_err-given-clause-number c =
-    let e = c.in_err-given.field-0.0 in
-    let q : answered c.from_residual.result ≡ refusal_number e = search rules in
-    q ∙ not_read c.args.kind c.args.s.now (length c.args.out.now) e c.in_err-given.ensures.number
+pub returns-in_err-given : goal.returns-in_err-given
+returns-in_err-given c =
+    let a = c.args in
+    let e : Refusal = c.in_err-given.field-0.0 in
+    let q : c.from_residual.result ≡ Err e = search rules in
+    rw q (not_read a.kind a.s.now a.out.now e c.in_err-given.ensures.number)
 
-pub returns-clause-number : goal.returns-clause-number
-returns-clause-number c =
+pub returns : goal.returns
+returns c =
+    let a = c.args in
     let g = c.in_ok-given.ensures.given in
-    c.write.ensures.number ∙ rw (g.0, g.1) (was_read c.args.kind c.args.s.now (length c.args.out.now) c.in_ok-given.ensures.number)
+    was_read a.kind a.s.now a.out.now c.in_ok-given.given.size _ _ c.in_ok-given.ensures.number g.0 (rw g.1 at c.write.ensures)
