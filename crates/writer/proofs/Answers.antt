@@ -1,5 +1,5 @@
 -- A call that writes, by how it ends: refused, with nothing written, or done. Assumes nothing.
-use Rattle.std.proofs.Common.{◌≡◌, ℕ, List, length, sym, ◌∙◌}
+use Rattle.std.proofs.Common.{◌≡◌, ℕ, List, length}
 use Rattle.chain.specs.declared.refusal.Refusal.{Refusal}
 use Rattle.chain.specs.Paper.{done}
 use Rattle.chain.specs.Output.{over, Writes}
