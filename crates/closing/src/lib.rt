@@ -98,8 +98,7 @@ fn put_row(c: Chain, mem: &[u8], out: &mut [u8]) -> Result<usize, Refusal>
     let a = p.awaited;
     // Kept: C interface: the awaited byte is a number of Place, and a caller in C may lend any.
     match a {
-        AT_PREAMBLE => put(out, &[0x00]),
-        AT_SECOND => put(out, &[0x00]),
+        AT_PREAMBLE | AT_SECOND => put(out, &[0x00]),
         AT_CONTROL => put_after_preamble(c, out),
         AT_ADDRESS => put(out, &[0x00, 0x00, 0x00, NO_WINDOWS, POSTAMBLE]),
         AT_ADDRESS2 => put(out, &[0x00, 0x00, NO_WINDOWS, POSTAMBLE]),
@@ -107,9 +106,8 @@ fn put_row(c: Chain, mem: &[u8], out: &mut [u8]) -> Result<usize, Refusal>
         AT_COUNT => put(out, &[NO_WINDOWS, POSTAMBLE]),
         AT_CHECK => put(out, &[POSTAMBLE]),
         AT_NULL => put(out, &[0x00, 0xff, 0xff]),
-        AT_START => put(out, &[0xff, 0xff]),
+        AT_START | AT_END => put(out, &[0xff, 0xff]),
         AT_START_LOW => put_after_start(c, out),
-        AT_END => put(out, &[0xff, 0xff]),
         AT_END_LOW => put_after_end(c, mem, out),
         AT_DATA => put_window(c, mem, &[], to_come, out),
         _ => Ok(0),
