@@ -11,7 +11,7 @@ use native.Mathlib.Omega.{arith}
 use lib.Dec.{eqb}
 use lib.ListN.{length, get_or, set, take, drop, drop_of_length-le}
 use lib.Seq.{sets, set_out, drop-cons}
-use Rattle.cells.specs.Differ.{one_unless, unlike_of, differs}
+use Rattle.cells.specs.Differ.{one_unless, differs}
 
 miss_le : (q : Bool) → one_unless q ≤ 1
 miss_le true = omega arith
@@ -22,12 +22,6 @@ unfolding differs
 differs-le [] ys = omega arith
 differs-le (x ∷ xs) [] = omega arith
 differs-le (x ∷ xs) (y ∷ ys) = omega (arith, miss_le (eqb x y), differs-le xs ys)
-
--- one place more
-pub differs_next : (xs ys : List ℕ) (i : ℕ) → i < length xs → i < length ys
-    → differs (drop i xs) (drop i ys) ≡ unlike_of (get_or xs i 0) (get_or ys i 0) + differs (drop (i + 1) xs) (drop (i + 1) ys)
-unfolding differs
-differs_next xs ys i h g = rw (add-one, drop-cons xs i 0 h, drop-cons ys i 0 g)
 
 differs_none : (xs : List ℕ) → differs xs [] ≡ 0
 unfolding differs

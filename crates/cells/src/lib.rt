@@ -5,13 +5,6 @@ ghost use Rattle.std.specs.Prelude.{◌≡◌, ◌≤◌, ◌<◌, length, ◌�
 ghost use Rattle.std.proofs.lemmas.List.Edits.{sets};
 ghost use Rattle.cells.specs.Differ.{unlike_of, differs};
 
-// The smaller of two lengths or positions.
-pub fn least(a: usize, b: usize) -> usize
-    ensures { (result ≤ a) × (result ≤ b) × ((result ≡ a) ⊎ (result ≡ b)) }
-{
-    a.min(b)
-}
-
 // Copies src over the front of dst. A loop, which the compiler runs on vectors of bytes: a call of the C library's copy takes stack that a
 // sleeping controller has not.
 pub fn copy(dst: &mut [u8], src: &[u8])

@@ -7,8 +7,7 @@ use Rattle.std.proofs.lemmas.List.{length-take-le}
 use mathlib.Core.List.{List, [], ◌∷◌}
 use native.Mathlib.Nat.{le_of_suc-le-suc, not-suc-le-zero}
 use native.Mathlib.Omega.{arith}
-use lib.ListN.{length, get_or, set, take, get_or-eq_default}
-use lib.Seq.{set_out}
+use lib.ListN.{length, get_or, take}
 use Rattle.chain.specs.Kinds.{size_of, base_of}
 
 pub base_suc : (ks : List ℕ) (i : ℕ) → i < length ks → base_of ks (suc i) ≡ base_of ks i + size_of (get_or ks i 0)
@@ -44,10 +43,3 @@ base_front ks m d i eight least below above =
     rest : (d < 8) ⊎ (8 ≤ d) → base_of ks m ≡ base_of ks d
     rest (inl low) = ap (λ (x : ℕ). base_of ks x) (omega (arith, least, low))
     rest (inr high) = base_out ks m d (omega (arith, eight, least, high)) (omega (arith, eight, high))
-
--- past the end of a list of numbers nothing is read or stored
-pub read_past : (l : List ℕ) (i : ℕ) → length l ≤ i → get_or l i 0 ≡ 0
-read_past l i h = get_or-eq_default l 0 h
-
-pub store_past : (l : List ℕ) (i v : ℕ) → length l ≤ i → set l i v ≡ l
-store_past l i v h = set_out l i v h

@@ -5,6 +5,9 @@ use mathlib.Core.List.{List, [], ◌∷◌}
 use native.Mathlib.Omega.{arith}
 use lib.Dec.{eqb}
 use Rattle.chain.specs.Kinds.{kinds, sizes, lookup, size_of}
+use Rattle.chain.specs.KnownKinds.{kind_number}
+use Rattle.chain.specs.declared.kinds.Kind.{Kind}
+use Rattle.chain.specs.declared.kinds.Kind.TheVariants.{Teaching, At6002, At6003, At6005, At6010}
 use Rattle.chain.proofs.ByCases.{either_way}
 
 abbrev Every : (ℕ → Type 0) → List ℕ → Type 0
@@ -28,3 +31,12 @@ unfolding size_of
 size-least k =
     lookup_every (λ (n : ℕ). (n ≡ 0 → ⊥) → 52 ≤ n) (λ h. absurd (h refl)) kinds sizes k
     (λ h. omega arith, (λ h. omega arith, (λ h. omega arith, (λ h. omega arith, (λ h. omega arith, tt)))))
+
+-- so the known kinds have sizes between the two
+pub known_sized : (k : Kind) → (52 ≤ size_of (kind_number k)) × (size_of (kind_number k) ≤ 16381)
+unfolding size_of
+known_sized Teaching = (omega arith, omega arith)
+known_sized At6002 = (omega arith, omega arith)
+known_sized At6003 = (omega arith, omega arith)
+known_sized At6005 = (omega arith, omega arith)
+known_sized At6010 = (omega arith, omega arith)

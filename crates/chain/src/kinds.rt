@@ -7,6 +7,11 @@ use crate::Chain;
 use crate::eight::at8;
 use crate::refusal::Refusal;
 
+// Document 01's table: two constant arrays, and one lookup that is proved once for every kind.
+const KINDS: [u8; 5] = [0, 2, 3, 5, 10];
+
+const SIZES: [u16; 5] = [52, 2665, 4141, 8065, 16381];
+
 // Each kind has its number in the guide; the first is the guide's teaching array.
 #[derive(Clone, Copy, Debug, PartialEq, Eq)]
 pub enum Kind {
@@ -25,18 +30,11 @@ impl Kind {
     }
 
     // How many bytes of memory a device of this kind has.
-    #[tactic(auto, unfolding(crate::specs::Kinds::size_of))]
     pub fn size(self) -> u16
         ensures value { result ≡ size_of (kind_number self) }
         ensures bounds { (52 ≤ result) × (result ≤ 16381) }
     {
-        match self {
-            Kind::Teaching => 52,
-            Kind::At6002 => 2665,
-            Kind::At6003 => 4141,
-            Kind::At6005 => 8065,
-            Kind::At6010 => 16381,
-        }
+        size_of(self.number())
     }
 }
 
@@ -62,10 +60,12 @@ impl TryFrom<u8> for Kind {
 pub fn size_of(kind: u8) -> u16
     ensures { result ≡ size_of kind }
 {
-    match Kind::try_from(kind) {
-        Ok(known) => known.size(),
-        Err(_) => 0,
+    for (known, size) in KINDS.iter().zip(&SIZES) {
+        if *known == kind {
+            return *size;
+        }
     }
+    0
 }
 
 // The size of the run's device.

@@ -205,31 +205,3 @@ pub fn fed(c: Chain, len: usize) -> Result<(), Refusal>
 {
     open(c, len)
 }
-
-// The same as numbers, 0 where nothing refuses the call.
-pub fn open_number(c: Chain, len: usize) -> u8
-    ensures { result ≡ open_number c len }
-{
-    match open(c, len) {
-        Ok(()) => DONE,
-        Err(refusal) => refusal.number(),
-    }
-}
-
-pub fn state_number(c: Chain, len: usize) -> u8
-    ensures { result ≡ state_number c len }
-{
-    match sound(c, len) {
-        Ok(()) => DONE,
-        Err(refusal) => refusal.number(),
-    }
-}
-
-pub fn feed_number(c: Chain, len: usize) -> u8
-    ensures { result ≡ feed_number c len }
-{
-    match fed(c, len) {
-        Ok(()) => DONE,
-        Err(refusal) => refusal.number(),
-    }
-}

@@ -1,4 +1,4 @@
-use Rattle.std.proofs.Common.{rules, ◌⊎◌, ◌≤◌, ◌<◌, inl, inr, length, arith}
+use Rattle.std.proofs.Common.{◌⊎◌, ◌≤◌, ◌<◌, inl, inr, length, arith}
 use mathlib.Core.Path.{◌∙◌, sym}
 use Rattle.std.proofs.lemmas.Bool.{cases_lt}
 use Rattle.cells.proofs.Count.{copy_end}
