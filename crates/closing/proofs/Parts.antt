@@ -5,10 +5,11 @@ use mathlib.Core.List.{List, ◌++◌}
 use native.Mathlib.Omega.{arith}
 use borrow.Author.Tests.{le-ltb}
 use borrow.Rule.Slice.PartMut.{put_mid}
-use Rattle.std.proofs.Common.{append_assoc}
+use Rattle.std.proofs.Common.{append_assoc, append-nil}
 use Rattle.std.proofs.lemmas.List.{drop_at}
-use lib.ListN.{length, drop, length-append}
-use lib.Seq.{take_at, drop-drop}
+use lib.ListN.{length, drop, length-append, drop_of_length-le}
+use Rattle.cells.proofs.Over.{sets-front}
+use lib.Seq.{sets, take_at, drop-drop}
 use Rattle.std.specs.Prelude.{Ok}
 use Rattle.closing.specs.Put.{Put, told}
 
@@ -17,6 +18,10 @@ laid_behind : (a b o : List ℕ) (i : ℕ) → length a ≡ i → put_mid i (i +
 laid_behind a b o i e =
     let k : i + length b - i ≡ length b = omega arith in
     rw (k, take_at a o i e, drop_at a o i e) (sym (append_assoc a b (drop (length b) o)))
+
+-- a part of the output of their own length, written over with bytes, holds these
+pub laid_over : (o bs : List ℕ) → length o ≡ length bs → sets o 0 bs ≡ bs
+laid_over o bs e = sets-front bs o (omega arith) ∙ rw (drop_of_length-le o {i = length bs} (omega arith)) (append-nil bs)
 
 module _ (a b d out : List ℕ) where
   pub three_length : length a + length b + length d ≡ length (a ++ (b ++ d))

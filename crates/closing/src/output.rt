@@ -3,6 +3,7 @@ ghost use Rattle.std.specs.Prelude.{◌≡◌, ◌++◌, ◌+◌, ◌≤◌, len
 ghost use Rattle.std.proofs.lemmas.List.Edits.{sets};
 ghost use Rattle.closing.specs.Put.{Put, told};
 
+use cells::copy;
 use chain::refusal::Refusal;
 
 // n cells from at on, as far as memory goes.
@@ -21,7 +22,7 @@ pub fn put(out: &mut [u8], bytes: &[u8]) -> Result<usize, Refusal>
     if out.len() < n {
         return Err(Refusal::TooShort);
     }
-    out[..n].copy_from_slice(bytes);
+    copy(out, bytes);
     Ok(n)
 }
 
@@ -36,8 +37,8 @@ pub fn put_three(out: &mut [u8], lead: &[u8], cells: &[u8], end: &[u8]) -> Resul
     if out.len() < n {
         return Err(Refusal::TooShort);
     }
-    out[..i].copy_from_slice(lead);
-    out[i..j].copy_from_slice(cells);
-    out[j..n].copy_from_slice(end);
+    copy(&mut out[..i], lead);
+    copy(&mut out[i..j], cells);
+    copy(&mut out[j..n], end);
     Ok(n)
 }
