@@ -1,5 +1,5 @@
 -- A run over a slice: in two parts, past its end, and from byte i on. Assumes nothing.
-use Rattle.std.proofs.Common.{◌≡◌, ℕ, ◌+◌, ◌-◌, ◌<◌, ◌≤◌, Bool, true, false, eqb, List, [], ◌∷◌, ◌++◌, length, get_or, take, drop, sym, refl, ap, ◌∙◌, add-one, arith, length-drop, take-append-drop, drop_of_length-le, length-take-le, take_all, drop-cons, drop-drop, ne_eqb}
+use Rattle.std.proofs.Common.{◌≡◌, ℕ, ◌+◌, ◌-◌, ◌<◌, ◌≤◌, Bool, true, false, eqb, List, [], ◌∷◌, ◌++◌, length, get_or, take, drop, sym, refl, ap, ◌∙◌, add-one, arith, length-drop, take-append-drop, drop_of_length-le, take_all, drop-cons, drop-drop, ne_eqb}
 use borrow.Author.Tests.{eqb-false}
 use Rattle.chain.specs.declared.Chain.{Chain}
 use Rattle.chain.specs.Paper.{more}
@@ -38,14 +38,6 @@ run-front c m s k r e =
 pub lent-rest : (s : List ℕ) (i : ℕ) → take (length s - i) (drop i s) ≡ drop i s
 lent-rest s i = take_all (length s - i) (drop i s) (omega (arith, length-drop i s))
 
--- a lent part of k bytes has k
-pub part_length : (s : List ℕ) (i k : ℕ) → i + k ≤ length s → length (take (i + k - i) (drop i s)) ≡ k
-part_length s i k h = length-take-le (i + k - i) (drop i s) (omega (arith, length-drop i s)) ∙ omega arith
-
--- u bytes of a lent rest are in the slice
-pub within : (s : List ℕ) (i u : ℕ) → i ≤ length s → u ≤ length (take (length s - i) (drop i s)) → i + u ≤ length s
-within s i u h g = omega (arith, length-take-le (length s - i) (drop i s) (omega (arith, length-drop i s)), h, g)
-
 module _ (c : Chain) (m s : List ℕ) (i : ℕ) where
   pub run_at : i < length s → run_of (run c m more) (drop i s) ≡ run_of (step_of c m (get_or s i 0)) (drop (i + 1) s)
   unfolding run_of
@@ -61,10 +53,3 @@ module _ (c : Chain) (m s : List ℕ) (i : ℕ) where
       let z : i + k - i ≡ k = omega arith in
       let f : run_of (run c m more) (take k (drop i s)) ≡ r = rw z at e in
       run-front c m (drop i s) k r f ∙ ap (run_of r) (drop-drop k i s)
-
-  -- u bytes further, as a lent rest has them
-  pub run-rest : (u : ℕ) (r : Run) → run_of (run c m more) (take (length s - i) (drop i s)) ≡ run_of r (drop u (take (length s - i) (drop i s)))
-      → run_of (run c m more) (drop i s) ≡ run_of r (drop (i + u) s)
-  run-rest u r e =
-      let f : run_of (run c m more) (drop i s) ≡ run_of r (drop u (drop i s)) = rw (lent-rest s i) at e in
-      f ∙ ap (run_of r) (drop-drop u i s)

@@ -1,8 +1,6 @@
 -- What a byte leaves of the place: running, mode, check and the counts are not the advance's. Assumes nothing.
 use Rattle.std.proofs.Common.{◌≡◌, ℕ, ◌+◌, Bool, ltb, leb, refl}
-use Rattle.chain.specs.declared.Chain.{Chain}
 use Rattle.chain.specs.declared.Place.{Place}
-use Rattle.chain.specs.Kinds.{base_of, size_here}
 use Rattle.chain.specs.Rules.{pick}
 use Rattle.chain.proofs.ByCases.{either_way}
 use Rattle.awaited.specs.Byte.{passed_of, advance_of}
@@ -28,14 +26,6 @@ unfolding passed_of
 passed_device p n =
     either_way (λ (q : Place). q.device ≡ p.device) (leb (p.next + n) p.end) _ _ refl
     (either_way (λ (q : Place). q.device ≡ p.device) (ltb 1 p.left) _ _ refl refl)
-
--- and in a device of the same kinds its size and where its memory begins are the same
-module _ (c d : Chain) (k : d.kinds ≡ c.kinds) (p : d.place.device ≡ c.place.device) where
-  pub same_size : size_here c ≡ size_here d
-  same_size = rw (k, p)
-
-  pub same_base : base_of c.kinds c.place.device ≡ base_of d.kinds d.place.device
-  same_base = rw (k, p)
 
 pub advance_frame : (p : Place) (b : ℕ) → Frame p (advance_of p b)
 unfolding advance_of passed_of

@@ -1,5 +1,5 @@
 // Data bytes taken as one block, large windows at the speed of a copy; and the five bytes before them at once.
-#![tactic(auto, using(chain::proofs::Tests::tests, crate::proofs::Block::lay_check, crate::proofs::Block::lay_write), unfolding(crate::specs::Block::misses_of, crate::specs::Block::laid_of))]
+#![tactic(auto, using(chain::proofs::Tests::tests, crate::proofs::Block::lay_check, crate::proofs::Block::lay_write, crate::proofs::Took::took_front, crate::proofs::Took::took_both), unfolding(crate::specs::Block::misses_of, crate::specs::Block::laid_of))]
 
 ghost use Rattle.std.specs.Prelude.{◌≡◌, ◌+◌, ◌-◌, ◌<◌, ◌≤◌, length, MatchOption};
 ghost use Rattle.chain.specs.Paper.{at_data, more};
@@ -114,6 +114,7 @@ impl Here {
 
     // The null byte, start and end of a window that the device has, where s begins with them.
     #[inline(always)]
+    #[tactic(auto, using(crate::proofs::Took::took_header, crate::proofs::Header::fits_true))]
     fn header(self, s: &[u8]) -> Option<(Here, &[u8])>
         ensures { MatchOption result Unit (λ r. Headed self s.now r.0 r.1.now) }
     {

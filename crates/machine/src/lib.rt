@@ -1,5 +1,5 @@
 // The byte machine: a stream taken byte by byte or slice by slice into a chain, as a write or as a check.
-#![tactic(auto, using(chain::proofs::Tests::tests), unfolding(crate::specs::Calls::fed_of, crate::specs::Calls::refuse_of, crate::specs::Calls::ahead_of, crate::specs::Calls::past_of))]
+#![tactic(auto, using(chain::proofs::Tests::tests, chain::proofs::PassedUp::not_done, crate::proofs::Starts::start_gives, crate::proofs::Starts::start_passes), unfolding(crate::specs::Calls::start_of, crate::specs::Calls::slice_of, crate::specs::Calls::slice_memory, crate::specs::Calls::drop_of, crate::specs::Calls::fed_of, crate::specs::Calls::refuse_of, crate::specs::Calls::ahead_of, crate::specs::Calls::past_of))]
 
 mod bulk;
 mod here;
@@ -42,6 +42,7 @@ pub struct Fed {
 
 impl Answer {
     // A number, and the counts of a place.
+    // Kept: C interface: the number is a field of `Answer`, 0 and 16 among its values.
     pub fn new(number: u8, p: Place) -> Answer
         ensures { result ≡ record { number = number; taken = p.taken; mismatches = p.mismatches } }
     {
@@ -95,6 +96,7 @@ fn opened(c: Chain, len: usize, mode: u8, check: u8) -> Result<Place, Refusal>
 }
 
 // Opens a run in a mode; check 0 writes, any other checks.
+// Kept: C interface: `mode` and `check` are bytes of C's, and any is answered.
 pub fn start(c: Chain, mem: &[u8], mode: u8, check: u8) -> Made
     ensures { Start c mem.now mode check result }
 {
@@ -149,6 +151,7 @@ pub fn byte(c: Chain, mem: &mut [u8], b: u8) -> Fed
 
 // For calls above the machine: ends an open run with a number of theirs. Its last byte counts as taken; no cell and no register changes. Seldom, so a function
 // of its own: its room is then no part of its caller's.
+// Kept: promise of `refuse`: the number is the caller's, whatever byte it is.
 #[inline(never)]
 pub fn refuse(c: Chain, n: u8) -> Fed
     ensures { result ≡ refuse_of c n }

@@ -1,5 +1,5 @@
 // One byte of a run, and a slice of them.
-#![tactic(auto, using(chain::proofs::Tests::tests), unfolding(crate::specs::Run::address_of, crate::specs::Run::memory_of, crate::specs::Run::registers_of, crate::specs::Run::missed_of, crate::specs::Run::step_of, crate::specs::Calls::fed_of))]
+#![tactic(auto, using(chain::proofs::Tests::tests, crate::proofs::Took::took_both, crate::proofs::Took::took_all, crate::proofs::Took::took_step, crate::proofs::Took::took_last), unfolding(crate::specs::Run::address_of, crate::specs::Run::memory_of, crate::specs::Run::registers_of, crate::specs::Run::missed_of, crate::specs::Run::step_of, crate::specs::Calls::fed_of))]
 
 ghost use Rattle.std.specs.Prelude.{◌≡◌, ◌≤◌, slice_index};
 ghost use Rattle.chain.specs.Set.{with_place};
@@ -16,6 +16,8 @@ use chain::kinds::base_of;
 use chain::paper::*;
 use chain::{Chain, Place, closed_place};
 use std::ops::ControlFlow;
+
+// Kept: C interface: C lends any byte as a place's `awaited` or `check`, so that they are compared as numbers here and in bulk.rt (seven places).
 
 // The awaited cell.
 fn address(c: Chain) -> usize
