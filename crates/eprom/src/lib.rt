@@ -70,7 +70,8 @@ pub fn fetcher_new(mode: u8) -> Fetcher
     Fetcher::fresh(home(mode))
 }
 
-// What refuses a call before it looks at a byte.
+// What refuses a call before it looks at a byte. A function of its own: its room is then no part of the fetch's.
+#[inline(never)]
 fn fetching(c: Chain, f: Fetcher, len: usize) -> Result<(), Refusal>
     ensures { answered result ≡ fetch_number c f len }
 {

@@ -93,7 +93,7 @@ impl Board {
     }
 
     // Fetches and feeds the bytes left, or as many as the run takes, in a room for many, which is filled with zeros once.
-    // Kept: speed: tried one function for this loop and that of `walk`, with the room's size as a const parameter: `at6000_fetch` took 2,120 bytes of its 2,048.
+    // Kept: no plainer: this loop and that of `walk` are a step in a room of another size; as one they would take the size and where to stop as parameters.
     fn rest(&mut self, mem: &mut [u8], e: &[u8]) -> Fetched
         ensures value { result ≡ fetched_of (fetch_all e.now self.old.left (lent self.old.chain mem.old self.old.fetcher)) }
         ensures mem_after { mem.new ≡ (fetch_all e.now self.old.left (lent self.old.chain mem.old self.old.fetcher)).run.memory }
