@@ -139,10 +139,14 @@ fn front<'a>(c: Chain, mem: &mut [u8], s: &'a [u8]) -> (Chain, &'a [u8])
 pub fn feed(c: Chain, mem: &mut [u8], s: &[u8]) -> ControlFlow<Fed, Chain>
     ensures { Comes result mem.new (run_of (run c mem.old more) s.now) }
 {
-    let (mut d, mut left) = front(c, mem, s);
-    while let Some((b, after)) = left.split_first() {
-        let e = step(d, mem, *b)?;
-        (d, left) = front(e, mem, after);
+    let mut d = c;
+    let mut left = s;
+    loop {
+        let (e, bytes) = front(d, mem, left);
+        let Some((b, after)) = bytes.split_first() else {
+            return ControlFlow::Continue(e);
+        };
+        d = step(e, mem, *b)?;
+        left = after;
     }
-    ControlFlow::Continue(d)
 }
