@@ -120,8 +120,8 @@ fn step(c: Chain, mem: &mut [u8], b: u8) -> ControlFlow<Fed, Chain>
 
 // Blocks from the front of a slice, where there are any: they are looked for in two bytes and more, since the step takes one sooner, and only before or
 // inside a window.
-// Kept: speed: tried `blocks(c, mem, s)` with no copy before it, 30 instructions more for each byte, and with none after it, 70 more: what a call that is
-// not in line reads or writes is no longer in the processor's registers.
+// Kept: speed: tried without the two copies, as `blocks(c, mem, s)`: 90 instructions more for each byte, and 30 more without the first alone. What a call that
+// is not in line reads or writes is not in the processor's registers.
 #[inline(always)]
 fn front<'a>(c: Chain, mem: &mut [u8], s: &'a [u8]) -> (Chain, &'a [u8])
     ensures { Took c mem.old s.now result.0 mem.new result.1.now }
