@@ -74,8 +74,8 @@ module _ (kind : ℕ) (s out : List ℕ) (size : ℕ) (z : size ≡ size_of kind
 
       -- ---- what was kept, and its reaches noted in a table
 
-      module _ (b : get_or s 0 0 ≡ preamble) (small : (i : ℕ) → get_or s i 0 < 256) (k : Kept) (table table' : List ℕ) (wide : length table ≡ 255)
-          (e : (k ≡ kept_of size s (count_at s 0) head_length) × (table' ≡ sets table 0 (reaches_of (windows_of size s (count_at s 0) head_length)))) where
+      module _ (b : get_or s 0 0 ≡ preamble) (small : (i : ℕ) → get_or s i 0 < 256) (k : Kept) (reaches : List ℕ)
+          (e : (k ≡ kept_of size s (count_at s 0) head_length) × (reaches ≡ reaches_of (windows_of size s (count_at s 0) head_length))) where
         abbrev ws : List ReadWindow
         ws = windows_of size s (count_at s 0) head_length
 
@@ -102,21 +102,17 @@ module _ (kind : ℕ) (s out : List ℕ) (size : ℕ) (z : size ≡ size_of kind
             (unfold salvage_number in rw (unknown, there, eq-eqb (get_or s 0 0) preamble b, lt-ltb (length out) (length (salvaged (size_of kind) s)) (omega (arith, long-is))))
             (λ x. omega (arith, x))
 
-        -- the table has all that were kept
-        noted : take k.windows table' ≡ reaches_of (windows_of size s k.windows head_length)
-        noted =
-            let l : length (reaches_of ws) ≡ k.windows = length-map ws (λ (w : ReadWindow). w.end - w.start) ∙ rw e.0 in
-            rw (e.1, alone-is) (front_is (reaches_of ws) table k.windows l kept_few)
-          where
-            kept_few : k.windows ≤ length table
-            kept_few = rw e.0 (let f = few size s (count_at s 0) head_length in omega (arith, wide))
+        noted : reaches ≡ reaches_of (windows_of size s k.windows head_length)
+        noted = rw (e.1, alone-is)
+
+        many : length reaches ≡ k.windows
+        many = ap length e.1 ∙ length-map ws (λ (w : ReadWindow). w.end - w.start) ∙ rw e.0
 
         pub asks : k.offset < length out
-            → (k.windows ≤ length table') × (5 < k.offset) × (k.offset ≤ length s) × (k.offset < length out) × (end_of head_length (take k.windows table') ≤ k.offset)
+            → (length reaches ≤ 255) × (5 < k.offset) × (k.offset ≤ length s) × (k.offset < length out) × (end_of head_length reaches ≤ k.offset)
         asks l =
-            let n : k.windows ≤ 255 = rw e.0 (let f = few size s (count_at s 0) head_length in omega arith) in
-            let w : length table' ≡ 255 = ap length e.1 ∙ length-sets table 0 (reaches_of ws) ∙ wide in (
-              omega arith,
+            let n : k.windows ≤ 255 = rw e.0 (let f = few size s (count_at s 0) head_length in omega arith) in (
+              omega (arith, many),
               omega (arith, long size s k.windows k.offset ready small),
               within size s k.windows k.offset ready small,
               l,
@@ -124,7 +120,7 @@ module _ (kind : ℕ) (s out : List ℕ) (size : ℕ) (z : size ≡ size_of kind
             )
 
         pub all : (end : ℕ) (out' : List ℕ) → end ≡ pick (eqb k.number done) (check_stop (get_or s 1 0) s k.offset).number k.number
-            → k.offset < length out → out' ≡ laid_over s k.windows (take k.windows table') k.offset out
+            → k.offset < length out → out' ≡ laid_over s (length reaches) reaches k.offset out
             → Salvages kind s out
             (record { number = done; kept = k.windows; announced = 255 - get_or s 5 0; end = end; offset = k.offset; length = k.offset + 1 }) out'
         all end out' f l o =
@@ -133,6 +129,7 @@ module _ (kind : ℕ) (s out : List ℕ) (size : ℕ) (z : size ≡ size_of kind
               answer = rw (number, ← a, ← ended, ← last, long-is);
               output =
                   o
+                  ∙ ap (λ (n : ℕ). laid_over s n reaches k.offset out) many
                   ∙ ap (λ (ds : List ℕ). laid_over s k.windows ds k.offset out) noted
                   ∙ stored size s k.windows k.offset ready small out l
                   ∙ ap (λ (u : List ℕ). over u out) salvaged_is

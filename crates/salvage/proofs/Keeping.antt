@@ -1,12 +1,11 @@
 -- Turns of the two loops: windows kept one after another with their reaches noted, and null bytes put out. Assumes nothing.
 use Prim.Native.Nat.{ℕ, zero, suc, ◌+◌, ◌-◌, ◌*◌, ◌≤◌, ◌<◌}
 use mathlib.Core.Path.{◌≡◌, refl, sym, ap, ◌∙◌}
-use mathlib.Core.List.{List, [], ◌∷◌}
+use mathlib.Core.List.{List, [], ◌∷◌, ◌++◌, append_assoc, append-nil}
 use native.Mathlib.Omega.{arith}
-use native.Mathlib.Numerals.{add-one}
 use borrow.Author.Tests.{eq-eqb, ne_eqb}
-use lib.ListN.{length, get_or, set, drop, length-set, drop_of_length-le}
-use lib.Seq.{sets, drop-cons}
+use lib.ListN.{length, get_or, set, drop, length-append, length-set, drop_of_length-le}
+use lib.Seq.{drop-cons}
 use Rattle.chain.specs.Paper.{done}
 use Rattle.grammar.specs.Tables.{null_byte}
 use Rattle.reader.specs.Windows.{ReadWindow, next_at, window_stop, read_window_of, windows_of}
@@ -50,29 +49,30 @@ module _ (size : ℕ) (s : List ℕ) where
       let y : 1 + length (windows_of size s (n - 1) (read_window_of size s at).next) ≡ suc (length (windows_of size s (n - 1) (read_window_of size s at).next)) = omega arith in
       rw (windows-more size s n at h, eq-eqb (read_window_of size s at).number done z, list-more n at h z, y)
 
-module _ (size : ℕ) (s : List ℕ) (n : ℕ) (table₀ : List ℕ) where
-  pub record Keeping (table : List ℕ) (at k : ℕ) : Type 0 where
+module _ (size : ℕ) (s : List ℕ) (n : ℕ) where
+  -- k windows are kept, whose reaches are noted, and the next is awaited at a position
+  pub record Keeping (noted : List ℕ) (at k : ℕ) : Type 0 where
     pub inside : k ≤ n
-    pub long : length table ≡ length table₀
+    pub long : length noted ≡ k
     pub rest : kept_of size s n head_length ≡ ahead k (kept_of size s (n - k) at)
-    pub noted : sets table₀ 0 (reaches_of (windows_of size s n head_length)) ≡ sets table k (reaches_of (windows_of size s (n - k) at))
+    pub reaches : reaches_of (windows_of size s n head_length) ≡ noted ++ reaches_of (windows_of size s (n - k) at)
 
-  pub keeping_none : Keeping table₀ head_length 0
+  pub keeping_none : Keeping [] head_length 0
   keeping_none =
       let e : n - 0 ≡ n = omega arith in
       let z : 0 + length (windows_of size s n head_length) ≡ length (windows_of size s n head_length) = omega arith in
-      record { inside = omega arith; long = refl; rest = rw (e, z); noted = rw e }
+      record { inside = omega arith; long = refl; rest = rw (e, z); reaches = rw e }
 
   -- both at a return
   abbrev Kept_all : Kept → List ℕ → Type 0
-  Kept_all r table = (r ≡ kept_of size s n head_length) × (table ≡ sets table₀ 0 (reaches_of (windows_of size s n head_length)))
+  Kept_all r noted = (r ≡ kept_of size s n head_length) × (noted ≡ reaches_of (windows_of size s n head_length))
 
-  module _ (table : List ℕ) (at k : ℕ) (f : Keeping table at k) (r : ReadWindow) (e : r ≡ read_window_of size s at) (h : k < n) where
-    pub keeping-stop : (r.number ≡ done → ⊥) → Kept_all (kept r.number k at) table
+  module _ (noted : List ℕ) (at k : ℕ) (f : Keeping noted at k) (r : ReadWindow) (e : r ≡ read_window_of size s at) (h : k < n) where
+    pub keeping-stop : (r.number ≡ done → ⊥) → Kept_all (kept r.number (length noted) at) noted
     keeping-stop z =
-        let o : k + 0 ≡ k = omega arith in
+        let o : k + 0 ≡ length noted = omega (arith, f.long) in
         let w : windows_of size s (n - k) at ≡ [] = list_stop_lem size s (n - k) at (omega arith) (rw e at z) in
-        (sym (f.rest ∙ ap (ahead k) (kept-stop size s (n - k) at (omega arith) (rw e at z)) ∙ rw (o, e)), sym (f.noted ∙ rw w))
+        (sym (f.rest ∙ ap (ahead k) (kept-stop size s (n - k) at (omega arith) (rw e at z)) ∙ rw (o, e)), sym (f.reaches ∙ rw (w, append-nil)))
 
     module _ (z : r.number ≡ done) where
       pub in_order : r.start ≤ r.end
@@ -80,7 +80,7 @@ module _ (size : ℕ) (s : List ℕ) (n : ℕ) (table₀ : List ℕ) where
           let w = is_whole size s at (number_is size s at ∙ rw e at z) in
           rw (e, w.reads) w.in_order
 
-      pub keeping-more : Keeping (set table k (r.end - r.start)) r.next (k + 1)
+      pub keeping-more : Keeping (noted ++ (r.end - r.start) ∷ []) r.next (k + 1)
       keeping-more =
           let o : n - k - 1 ≡ n - (k + 1) = omega arith in
           let g : kept_of size s (n - k) at ≡ ahead 1 (kept_of size s (n - (k + 1)) r.next) = kept_more size s (n - k) at (omega arith) (rw e at z) ∙ rw (o, e) in
@@ -89,16 +89,16 @@ module _ (size : ℕ) (s : List ℕ) (n : ℕ) (table₀ : List ℕ) where
           let y : k + (1 + x) ≡ k + 1 + x = omega arith in
           record {
             inside = omega arith;
-            long = length-set table k (r.end - r.start) ∙ f.long;
+            long = omega (arith, f.long, length-append noted ((r.end - r.start) ∷ []));
             rest = f.rest ∙ ap (ahead k) g ∙ ap (λ (i : ℕ). kept (kept_of size s (n - (k + 1)) r.next).number i (kept_of size s (n - (k + 1)) r.next).offset) y;
-            noted = f.noted ∙ rw (w, add-one k);
+            reaches = f.reaches ∙ rw w (sym (append_assoc noted ((r.end - r.start) ∷ []) (reaches_of (windows_of size s (n - (k + 1)) r.next))));
           }
 
-  pub keeping_all : (table : List ℕ) (at k : ℕ) → Keeping table at k → n ≤ k → Kept_all (kept done n at) table
-  keeping_all table at k f h =
-      let o : k + 0 ≡ n = omega (arith, f.inside) in
+  pub keeping_all : (noted : List ℕ) (at k : ℕ) → Keeping noted at k → n ≤ k → Kept_all (kept done (length noted) at) noted
+  keeping_all noted at k f h =
+      let o : k + 0 ≡ length noted = omega (arith, f.long) in
       let w : windows_of size s (n - k) at ≡ [] = windows-list-none size s (n - k) at (omega arith) in
-      (sym (f.rest ∙ ap (ahead k) (kept-none size s (n - k) at (omega arith)) ∙ rw o), sym (f.noted ∙ rw w))
+      (sym (f.rest ∙ ap (ahead k) (kept-none size s (n - k) at (omega arith)) ∙ rw o), sym (f.reaches ∙ rw (w, append-nil)))
 
 -- ---- null bytes put out
 

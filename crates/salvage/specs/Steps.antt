@@ -18,8 +18,8 @@ pub record Kept : Type 0 where
   pub windows : ℕ
   pub offset : ℕ
 
-abbrev pub kept_in : Front → Kept
-kept_in f = record { number = answered f.next; windows = f.windows; offset = f.offset }
+abbrev pub kept_in : Front → ℕ → Kept
+kept_in f windows = record { number = answered f.next; windows = windows; offset = f.offset }
 
 -- a refusal is answered by its number alone
 abbrev pub answer_of : Result Salvaged Refusal → Salvaged

@@ -2,7 +2,7 @@
 #![tactic(auto)]
 
 ghost use Rattle.std.specs.Prelude.{◌≡◌, ◌≤◌, ◌<◌, eqb, length};
-ghost use Rattle.std.proofs.lemmas.List.Edits.{sets};
+ghost use Rattle.arrayvec.specs.ArrayVec.{array_vec_len};
 ghost use Rattle.chain.specs.Paper.{done};
 ghost use Rattle.chain.specs.Refusal.{answered, number_of};
 ghost use Rattle.chain.specs.Rules.{pick};
@@ -11,14 +11,13 @@ ghost use Rattle.reader.specs.Stream.{head_length, check_stop};
 ghost use Rattle.salvage.specs.Salvage.{Salvages};
 ghost use Rattle.salvage.specs.Steps.{kept_in, answer_of, kept_of, reaches_of, end_of, nulls_out, laid_over};
 
+use arrayvec::ArrayVec;
 use cells::copy;
 use chain::kinds::Kind;
 use chain::paper::*;
 use chain::refusal::Refusal;
 use reader::stream::{HEAD_LENGTH, check};
 use reader::window::read_window;
-
-const NULL: u8 = 0x00;
 
 // All but the number are 0 unless the number is 0. end is 0 where the stream was accepted, its refusal, or 16 where it was used up.
 #[repr(C)]
@@ -32,10 +31,9 @@ pub struct Salvaged {
     pub length: usize,
 }
 
-// The windows that are kept: how many they are, the byte after the last, and why the next is not, where more were announced.
+// The windows that are kept: the byte after the last, and why the next is not, where more were announced.
 #[derive(Clone, Copy)]
 struct Front {
-    windows: u8,
     offset: usize,
     next: Result<(), Refusal>,
 }
@@ -55,33 +53,26 @@ fn refused(refusal: Refusal) -> Salvaged
 
 // Windows one after another, before the first that is not whole. How far each reaches past its first cell is noted: to find a window waits for the one
 // before it to be read, and so none is read twice.
-fn keep(size: u16, s: &[u8], n: u8, reaches: &mut [u16]) -> Front
-    requires { n ≤ length reaches.old }
-    ensures front_value { kept_in result ≡ kept_of size s.now n head_length }
-    ensures reaches_after { reaches.new ≡ sets reaches.old 0 (reaches_of (windows_of size s.now n head_length)) }
+fn keep(size: u16, s: &[u8], n: u8, reaches: &mut ArrayVec<u16, 255>) -> Front
+    requires { array_vec_len reaches.old ≡ 0 }
+    ensures front_value { kept_in result (array_vec_len reaches.new) ≡ kept_of size s.now n head_length }
+    ensures reaches_after { reaches.new.items ≡ reaches_of (windows_of size s.now n head_length) }
 {
     let mut offset = HEAD_LENGTH;
-    for windows in 0..n {
+    for _ in 0..n {
         match read_window(size, s, offset) {
             Ok(w) => {
-                reaches[windows as usize] = w.bounds.end - w.bounds.start;
+                reaches.push(w.bounds.end - w.bounds.start);
                 offset = w.next;
             }
             Err(e) => {
                 let next = Err(e.refusal);
-                return Front {
-                    windows,
-                    offset,
-                    next,
-                };
+                return Front { offset, next };
             }
         }
     }
-    Front {
-        windows: n,
-        offset,
-        next: Ok(()),
-    }
+    let next = Ok(());
+    Front { offset, next }
 }
 
 // How the stream ended: why the next window was not kept, or what the check byte says.
@@ -102,7 +93,7 @@ fn nulls_out(reaches: &[u16], out: &mut [u8])
 {
     let mut at = HEAD_LENGTH;
     for reach in reaches {
-        out[at] = NULL;
+        out[at] = 0x00;
         at += 6 + usize::from(*reach);
     }
 }
@@ -119,6 +110,7 @@ fn put(s: &[u8], reaches: &[u16], offset: usize, out: &mut [u8])
     out[offset] = POSTAMBLE;
 }
 
+// The change list of a salvaged stream, or what refuses it: nothing is written then.
 fn mended(kind: u8, s: &[u8], out: &mut [u8]) -> Result<Salvaged, Refusal>
     ensures { Salvages kind s.now out.old (answer_of result) out.new }
 {
@@ -130,7 +122,7 @@ fn mended(kind: u8, s: &[u8], out: &mut [u8]) -> Result<Salvaged, Refusal>
         return Err(Refusal::NoPreamble);
     }
     let announced = NO_WINDOWS - s[5];
-    let mut reaches = [0u16; 255];
+    let mut reaches = ArrayVec::new();
     let front = keep(size, s, announced, &mut reaches);
     let offset = front.offset;
     if out.len() <= offset {
@@ -140,8 +132,8 @@ fn mended(kind: u8, s: &[u8], out: &mut [u8]) -> Result<Salvaged, Refusal>
         Ok(()) => DONE,
         Err(refusal) => refusal.number(),
     };
-    let kept = front.windows;
-    put(s, &reaches[..kept as usize], offset, out);
+    let kept = reaches.len() as u8;
+    put(s, reaches.as_slice(), offset, out);
     Ok(Salvaged {
         number: DONE,
         kept,

@@ -1,11 +1,10 @@
 use mathlib.Core.Path.{◌≡◌, refl, ap, ◌∙◌}
 use native.Mathlib.Omega.{arith}
-use lib.ListN.{take}
-use lib.Seq.{length-take-le}
+use lib.ListN.{length}
 use Rattle.std.proofs.lemmas.Result.{err_from_is_err_and}
 use Rattle.chain.specs.Kinds.{size_of}
 use Rattle.chain.specs.Refusal.{answered}
-use Rattle.salvage.specs.Steps.{kept_in, laid_over}
+use Rattle.salvage.specs.Steps.{kept_in}
 use Rattle.salvage.proofs.Answers.{no_kind, cut_short, no-first, no_room, asks, all}
 use Rattle.salvage.proofs.mended.Goals.{in-Ok, in-Err}
 use Rattle.salvage.proofs.mended.Goals as goal
@@ -35,16 +34,15 @@ returns-then-out-offset c =
     let a = c.args in
     let z = c.size-size.ensures.value ∙ ap size_of c.in_ok-try_from.ensures in
     let b = c.size-size.ensures.bounds in
-    no_room a.kind a.s.now a.out.now _ z (λ e. omega arith) c.if-s-lt-HEAD_LENGTH.false c.if-s.false (λ i. (c.type_inv.s i).fits) (kept_in c.keep-front.result) _ _ refl (c.keep-front.ensures.front_value, c.keep-front.ensures.reaches_after) _ refl c.if-out-offset.true
+    no_room a.kind a.s.now a.out.now _ z (λ e. omega arith) c.if-s-lt-HEAD_LENGTH.false c.if-s.false (λ i. (c.type_inv.s i).fits) (kept_in c.keep-front.result (length c.keep-front.new.reaches.items)) _ (c.keep-front.ensures.front_value, c.keep-front.ensures.reaches_after) _ refl c.if-out-offset.true
 
 pub put-requires : goal.put-requires
 put-requires c =
     let a = c.args in
     let z = c.size-size.ensures.value ∙ ap size_of c.in_ok-try_from.ensures in
     let b = c.size-size.ensures.bounds in
-    let k = asks a.kind a.s.now a.out.now _ z (λ e. omega arith) c.if-s-lt-HEAD_LENGTH.false c.if-s.false (λ i. (c.type_inv.s i).fits) (kept_in c.keep-front.result) _ _ refl (c.keep-front.ensures.front_value, c.keep-front.ensures.reaches_after) c.if-out-offset.false in
-    let l = length-take-le c.keep-front.result.windows c.keep-front.new.reaches k.0 in
-    (omega arith, k.1, k.2, k.3, k.4)
+    rw c.as_slice.ensures.value
+    (asks a.kind a.s.now a.out.now _ z (λ e. omega arith) c.if-s-lt-HEAD_LENGTH.false c.if-s.false (λ i. (c.type_inv.s i).fits) (kept_in c.keep-front.result (length c.keep-front.new.reaches.items)) _ (c.keep-front.ensures.front_value, c.keep-front.ensures.reaches_after) c.if-out-offset.false)
 
 pub returns : goal.returns
 returns c =
@@ -52,7 +50,6 @@ returns c =
     let z = c.size-size.ensures.value ∙ ap size_of c.in_ok-try_from.ensures in
     let b = c.size-size.ensures.bounds in
     let e : c.match-ended.end ≡ answered c.ended.result = elim c.match-ended.branch [ in-Ok w ↦ w.end-is ∙ rw w.in-Ok.is | in-Err w ↦ w.end-is ∙ w.number-end.ensures ∙ rw w.in-Err.is ] in
-    let n = c.keep-front.result.windows in
-    let k = asks a.kind a.s.now a.out.now _ z (λ e. omega arith) c.if-s-lt-HEAD_LENGTH.false c.if-s.false (λ i. (c.type_inv.s i).fits) (kept_in c.keep-front.result) _ _ refl (c.keep-front.ensures.front_value, c.keep-front.ensures.reaches_after) c.if-out-offset.false in
-    let o = c.put.ensures ∙ ap (λ i. laid_over a.s.now i (take n c.keep-front.new.reaches) c.keep-front.result.offset a.out.now) (length-take-le n c.keep-front.new.reaches k.0) in
-    all a.kind a.s.now a.out.now _ z (λ e. omega arith) c.if-s-lt-HEAD_LENGTH.false c.if-s.false (λ i. (c.type_inv.s i).fits) (kept_in c.keep-front.result) _ _ refl (c.keep-front.ensures.front_value, c.keep-front.ensures.reaches_after) _ _ (e ∙ c.ended.ensures) c.if-out-offset.false o
+    let o = rw c.as_slice.ensures.value at c.put.ensures in
+    rw c.len-kept.ensures.value
+    (all a.kind a.s.now a.out.now _ z (λ e. omega arith) c.if-s-lt-HEAD_LENGTH.false c.if-s.false (λ i. (c.type_inv.s i).fits) (kept_in c.keep-front.result (length c.keep-front.new.reaches.items)) _ (c.keep-front.ensures.front_value, c.keep-front.ensures.reaches_after) _ _ (e ∙ c.ended.ensures) c.if-out-offset.false o)
