@@ -6,9 +6,7 @@ use mathlib.Core.List.{List, map}
 use native.Mathlib.Omega.{arith}
 use borrow.Author.Tests.{eq-eqb, ne_eqb, lt-ltb, le-ltb, eqb-true}
 use lib.Dec.{eqb, ltb}
-use lib.ListN.{length, get_or, take, length-map}
-use lib.Seq.{sets, length-sets}
-use Rattle.cells.proofs.Over.{front_is}
+use lib.ListN.{length, get_or, length-map}
 use Rattle.chain.proofs.ByCases.{by_test}
 use Rattle.chain.specs.Paper.{preamble, first_mode, done, bad_chain, no_preamble, too_short, no_head}
 use Rattle.chain.specs.Rules.{pick}
