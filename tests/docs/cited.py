@@ -2,15 +2,15 @@
 """Every place of the code that the documents cite is there, and every must-fail edit is cited. Run at the root.
 
 A place is named as docs/READING.md says: `crate/File: name, name` a definition, `crate/proofs/File: name` a law, `crate/must-fail/edit` an edit,
-`crate::module::function` a function, `crate/specs/File.antt` or `crate/src/file.rt` a file, `crate/proofs/name` a file or a folder of proofs.
+`crate::module::function` a function, `crate::module::Type` a type and `crate::module::Type::function` a function of it, `crate/specs/File.antt` or `crate/src/file.rt` a file, `crate/proofs/name` a file or a folder of proofs.
 """
 import glob
 import os
 import re
 import sys
 
-# a landing's page speaks of its own day, and is not read
-DOCS = ["README.md"] + sorted(glob.glob("docs/*.md"))
+# a landing's page speaks of its own day, and so does that of the design pass, which has old signatures beside the new: they are not read
+DOCS = ["README.md"] + sorted(set(glob.glob("docs/*.md")) - {"docs/DESIGN-PASS.md"})
 CRATES = sorted(os.listdir("crates"))
 
 # what a file of antt defines: a name before a colon at the start of a line or of a record's field, a data type, a record, a ruleset
@@ -52,10 +52,17 @@ def missing(cited):
     m = re.fullmatch(r"\w+((?:::\w+)+)(?:\(.*\))?", cited)
     if m:
         parts = m.group(1).split("::")[1:]
-        files = [f"crates/{crate}/src/{'/'.join(parts[:-1]) or 'lib'}.rt", f"crates/{crate}/src/main.rt"]
+        owner = next((part for part in parts[:-1] if part[0].isupper()), None)
+        modules = [part for part in parts[:-1] if part != owner]
+        files = [f"crates/{crate}/src/{'/'.join(modules) or 'lib'}.rt", f"crates/{crate}/src/main.rt"]
         text = "".join(open(f, encoding="utf-8").read() for f in files if os.path.exists(f))
-        if not re.search(rf"\b(?:fn|struct|const|mod)\s+{parts[-1]}\b", text):
-            return f"no such function, struct or constant in {files[0]}"
+        if owner:
+            blocks = re.findall(rf"(?ms)^impl[^\n]*\b{owner}\b[^\n]*\{{\n.*?^\}}", text)
+            if not blocks:
+                return f"no impl of {owner} in {files[0]}"
+            text = "".join(blocks)
+        if not re.search(rf"\b(?:fn|struct|enum|const|mod|type)\s+{parts[-1]}\b", text):
+            return f"no such function, type or constant in {files[0]}"
     return None
 
 
