@@ -1,5 +1,5 @@
 -- A fetch block by block: what each turn of the loop leaves is what the bytes one by one leave. Assumes nothing.
-use Rattle.std.proofs.Common.{◌≡◌, ℕ, zero, suc, ◌+◌, ◌-◌, ◌<◌, ◌≤◌, List, length, sym, refl, ap, ◌∙◌, arith}
+use Rattle.std.proofs.Common.{Result, Ok, Err, MatchResult, OnOk, ◌≡◌, ℕ, zero, suc, ◌+◌, ◌-◌, ◌<◌, ◌≤◌, List, length, sym, refl, ap, ◌∙◌, arith}
 use Rattle.chain.specs.declared.Chain.{Chain}
 use Rattle.chain.specs.Paper.{more, past_eprom}
 use Rattle.machine.specs.Run.{run}
@@ -22,7 +22,7 @@ reach_less k h r =
     }
 
 -- an answer with no byte left
-still : (c : Chain) (m : List ℕ) (f : Fetcher) → answers c more c.place.taken c.place.mismatches f ≡ fetched_of (lent c m f)
+pub still : (c : Chain) (m : List ℕ) (f : Fetcher) → answers c more c.place.taken c.place.mismatches f ≡ fetched_of (lent c m f)
 unfolding fetched_of
 still c m f = refl
 
@@ -39,16 +39,15 @@ pub over_past : (e : List ℕ) (n : ℕ) (c : Chain) (m : List ℕ) (f : Fetcher
 unfolding fetched_of
 over_past e n c m f h l = rw (all_past e n c m f h l) (record { ends = λ z. omega (arith, z); value = refl; memory = refl })
 
-none_left : (e : List ℕ) (n : ℕ) (x : Fetching) → n ≡ 0 → fetch_all e n x ≡ x
+pub none_left : (e : List ℕ) (n : ℕ) (x : Fetching) → n ≡ 0 → fetch_all e n x ≡ x
 unfolding fetch_all
 none_left e n x z = ap (λ (k : ℕ). fetch_all e k x) z
 
--- with none left the run stays open
-pub stayed : (e : List ℕ) (n k : ℕ) (x : Fetching) (c : Chain) (m : List ℕ) (f : Fetcher) → fetch_all e n x ≡ fetch_all e k (lent c m f) → k ≡ 0
-    → (answers c more c.place.taken c.place.mismatches f ≡ fetched_of (fetch_all e n x)) × (m ≡ (fetch_all e n x).run.memory)
-stayed e n k x c m f l z =
-    let h = sym (l ∙ none_left e k (lent c m f) z) in
-    (still c m f ∙ ap fetched_of h, ap (λ (y : Fetching). y.run.memory) h)
+-- what a call leaves where it goes on, by two of its clauses
+pub at_end : {T E : Type 0} {P S A : Type 0} {Q B : E → Type 0} (r : Result T E) → MatchResult r (λ _. P) Q → OnOk r S → (P → S → A) → ((e : E) → Q e → B e)
+    → MatchResult r (λ _. A) B
+at_end (Ok x) h s f g = f h s
+at_end (Err e) h s f g = g e h
 
 -- a block of bytes that stand where the counter goes by
 module _ (c : Chain) (m : List ℕ) (f : Fetcher) (e bs : List ℕ) (b : Block c f bs) (r : Reads c.place.mode e f.counter bs) where

@@ -111,5 +111,8 @@ pub fn fetch(c: Chain, f: Fetcher, mem: &mut [u8], eprom: &[u8], n: usize) -> Fe
         fetcher: f,
         left: n,
     };
-    board.walk(mem, eprom)
+    match board.walk(mem, eprom) {
+        Ok(()) => board.stays(Refusal::UsedUp),
+        Err(r) => r,
+    }
 }

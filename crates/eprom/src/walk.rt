@@ -1,6 +1,6 @@
 // Bytes fetched block by block, as far as the run, the counter and the EPROM go. In mode 2 they stand the other way round in the EPROM, and are turned round in a
 // room before they are fed.
-ghost use Rattle.std.specs.Prelude.{◌≡◌, ◌+◌, ◌<◌, ◌≤◌, ◌&&◌, length, ◌==◌, MatchResult};
+ghost use Rattle.std.specs.Prelude.{◌≡◌, ◌+◌, ◌<◌, ◌≤◌, ◌&&◌, length, ◌==◌, MatchResult, OnOk};
 ghost use Rattle.chain.specs.Paper.{downward};
 ghost use Rattle.eprom.specs.Calls.{lent, fetched_of};
 ghost use Rattle.eprom.specs.Fetch.{fetch_all};
@@ -92,35 +92,32 @@ impl Board {
         self.counts_down() && self.is_settled()
     }
 
-    // Fetches and feeds the bytes left, or as many as the run takes, in a room for many, which is filled with zeros once.
-    // Kept: no plainer: this loop and that of `walk` are a step in a room of another size; as one they would take the size and where to stop as parameters.
-    fn rest(&mut self, mem: &mut [u8], e: &[u8]) -> Fetched
-        ensures value { result ≡ fetched_of (fetch_all e.now self.old.left (lent self.old.chain mem.old self.old.fetcher)) }
-        ensures mem_after { mem.new ≡ (fetch_all e.now self.old.left (lent self.old.chain mem.old self.old.fetcher)).run.memory }
+    // Takes blocks, in mode 2 turned round in a room for N bytes, which is filled with zeros once: all that are left, but that a small room is given up where a large
+    // one serves.
+    fn blocks<const N: usize>(&mut self, mem: &mut [u8], e: &[u8]) -> Result<(), Fetched>
+        requires some { 0 < N }
+        requires most { N ≤ TURNED }
+        ensures value { MatchResult result (λ _. fetch_all e.now self.old.left (lent self.old.chain mem.old self.old.fetcher) ≡ fetch_all e.now self.new.left (lent self.new.chain mem.new self.new.fetcher)) (λ r. Over (fetch_all e.now self.old.left (lent self.old.chain mem.old self.old.fetcher)) r mem.new) }
+        ensures all { TURNED ≤ N → OnOk result (self.new.left ≡ 0) }
     {
-        let mut room = [0u8; TURNED];
+        let mut room = [0u8; N];
         while 0 < self.left {
-            if let Err(r) = self.step(mem, &mut room, e) {
-                return r;
+            if N < TURNED && self.is_rest() {
+                return Ok(());
             }
+            self.step(mem, &mut room, e)?;
         }
-        self.stays(Refusal::UsedUp)
+        Ok(())
     }
 
     // Fetches and feeds the bytes left, or as many as the run takes.
-    pub fn walk(&mut self, mem: &mut [u8], e: &[u8]) -> Fetched
-        ensures value { result ≡ fetched_of (fetch_all e.now self.old.left (lent self.old.chain mem.old self.old.fetcher)) }
-        ensures mem_after { mem.new ≡ (fetch_all e.now self.old.left (lent self.old.chain mem.old self.old.fetcher)).run.memory }
+    pub fn walk(&mut self, mem: &mut [u8], e: &[u8]) -> Result<(), Fetched>
+        ensures { MatchResult result (λ _. fetch_all e.now self.old.left (lent self.old.chain mem.old self.old.fetcher) ≡ lent self.new.chain mem.new self.new.fetcher) (λ r. Over (fetch_all e.now self.old.left (lent self.old.chain mem.old self.old.fetcher)) r mem.new) }
     {
-        let mut room = [0u8; FEW];
-        while 0 < self.left && !self.is_rest() {
-            if let Err(r) = self.step(mem, &mut room, e) {
-                return r;
-            }
+        self.blocks::<FEW>(mem, e)?;
+        if self.left == 0 {
+            return Ok(());
         }
-        if 0 < self.left {
-            return self.rest(mem, e);
-        }
-        self.stays(Refusal::UsedUp)
+        self.blocks::<TURNED>(mem, e)
     }
 }
