@@ -63,7 +63,8 @@ pub fn read_windows(size: u16, s: &[u8], n: u8, from: usize) -> Result<usize, St
     ensures { stop_of result ≡ windows_stop size s.now n from }
 {
     let mut at = from;
-    for _ in 0..n {
+    // Counted in a whole word: a byte's counter costs three instructions more a window.
+    for _ in 0..usize::from(n) {
         at = read_window(size, s, at)?.next;
     }
     Ok(at)
