@@ -95,7 +95,9 @@ pub fn find(s: &[u8]) -> Option<usize>
     (0..POSITIONS).find(|p| begins(s, *p))
 }
 
-// n bytes from bit k of the first one on, k not 0, over the front of out. No test stands in the loop, so that it runs on vectors of bytes.
+// n bytes from bit k of the first one on, k not 0, over the front of out. No test stands in the loop, so that it runs on vectors of bytes; laid
+// into its callers it takes a sixth more.
+#[inline(never)]
 fn shift(s: &[u8], k: u8, n: usize, out: &mut [u8])
     requires { (0 < k) × (k < 8) × (n < length s.now) × (n ≤ length out.old) }
     ensures { out.new ≡ sets out.old 0 (bytes_from s.now k n) }
