@@ -18,6 +18,7 @@ use reader::stream::{HEAD_LENGTH, preamble_at, read_stream};
 use reader::whole::Windows;
 
 // All but the number and the bytes taken are 0 unless the number is 0.
+// Kept: C interface: at6000_list answers it.
 #[repr(C)]
 #[derive(Clone, Copy)]
 pub struct Listed {

@@ -16,6 +16,7 @@ use chain::refusal::Refusal;
 pub const HEAD_LENGTH: usize = 6;
 
 // Where the preamble stands that precedes the control byte.
+// Kept: promise of preamble_at and read_stream: they answer for every mode byte, where a Mode has six.
 pub fn preamble_at(mode: u8) -> usize
     ensures value { result ≡ preamble_at mode }
     ensures upper_bound { result ≤ 1 }

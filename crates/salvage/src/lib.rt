@@ -19,6 +19,7 @@ use chain::refusal::Refusal;
 use reader::stream::{HEAD_LENGTH, check};
 use reader::window::read_window;
 
+// Kept: C interface: at6000_salvage answers it.
 // All but the number are 0 unless the number is 0. end is 0 where the stream was accepted, its refusal, or 16 where it was used up.
 #[repr(C)]
 #[derive(Clone, Copy)]
