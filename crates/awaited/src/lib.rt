@@ -45,6 +45,7 @@ fn at_preamble(c: Chain, b: u8) -> Result<(), Refusal>
     begins(c.place.check, at8(c.registers, c.place.device))
 }
 
+// Kept: no plainer: a row of the paper each; the first preamble has one test more.
 fn at_second(c: Chain, b: u8) -> Result<(), Refusal>
     requires { c.place.awaited ≡ at_second }
     ensures { Passes result (number_of c b) }

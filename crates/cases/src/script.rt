@@ -24,9 +24,9 @@ impl From<[u8; 16]> for Call {
             c: s.byte(),
             mem: s.length(),
             out: s.length(),
-            starts: s.word() as usize,
-            ends: s.word() as usize,
-            args: s.word() as usize,
+            starts: usize::from(s.word()),
+            ends: usize::from(s.word()),
+            args: usize::from(s.word()),
         }
     }
 }

@@ -5,8 +5,9 @@ ghost use Rattle.std.specs.Prelude.{◌≡◌, ◌≤◌, ◌<◌, length, ◌�
 ghost use Rattle.std.proofs.lemmas.List.Edits.{sets};
 ghost use Rattle.cells.specs.Differ.{unlike_of, differs};
 
-// Copies src over the front of dst. A loop, which the compiler runs on vectors of bytes: a call of the C library's copy takes stack that a
-// sleeping controller has not.
+// Copies src over the front of dst.
+// Kept: speed: tried copy_from_slice, which calls the C library's copy: 1,280 bytes of stack for a slice call that took 673, and 2,496 for a fetch,
+// which has 2,048. The compiler runs this loop on vectors of bytes.
 pub fn copy(dst: &mut [u8], src: &[u8])
     ensures { dst.new ≡ sets dst.old 0 src.now }
 {

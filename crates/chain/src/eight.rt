@@ -15,6 +15,7 @@ pub fn with8(xs: [u8; 8], i: u8, v: u8) -> [u8; 8]
     ensures { result ≡ set xs i v }
 {
     let mut ys = xs;
+    // Kept: proof: tried `if let Some(y) = ys.get_mut(..)`; what the eight hold after it stayed open.
     let at = usize::from(i);
     if at < ys.len() {
         ys[at] = v;

@@ -52,6 +52,7 @@ pub struct Chain {
 }
 
 // A state and the number of the call that answers it.
+// Kept: C interface: in this and in `Written` a number stands beside what is answered; inside the crates a `Result` says it.
 #[repr(C)]
 #[derive(Clone, Copy)]
 pub struct Made {

@@ -80,6 +80,7 @@ impl Board {
         let n = r.answer.taken.wrapping_sub(self.chain.place.taken);
         let g = self.keep(&t[..n as usize]);
         let later = self.further(n);
+        // Kept: C interface: the number is a field of `Answer`.
         if r.answer.number != MORE {
             let h = self.ended(later, g);
             return Err(Fetched::fed(r, h));

@@ -26,7 +26,7 @@ fn head(a: u8) -> usize
 {
     match a {
         AT_PREAMBLE => 6,
-        AT_SECOND..=AT_COUNT => 7 - a as usize,
+        AT_SECOND..=AT_COUNT => 7 - usize::from(a),
         _ => 1,
     }
 }

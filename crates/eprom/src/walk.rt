@@ -101,6 +101,7 @@ impl Board {
         ensures all { TURNED ≤ N → OnOk result (self.new.left ≡ 0) }
     {
         let mut room = [0u8; N];
+        // Kept: no plainer: a turn takes as many bytes as stand together, so that there is no count of turns before.
         while 0 < self.left {
             if N < TURNED && self.is_rest() {
                 return Ok(());

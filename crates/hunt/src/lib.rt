@@ -18,6 +18,7 @@ const POSITIONS: usize = 65;
 // number is not 0.
 #[repr(C)]
 #[derive(Clone, Copy)]
+// Kept: C interface: at6000_hunt answers it.
 pub struct Hunted {
     pub number: u8,
     pub p: u8,

@@ -33,6 +33,7 @@ fn load_pieces(c: Chain, mem: &mut [u8], s: &[u8], start: Bit, room: &mut [u8]) 
     while at < n {
         let length = piece(s, Bit { byte: at, ..start }, room);
         let fed = taken(chain, mem, &room[..length]);
+        // Kept: C interface: the number is a field of `Answer`.
         if fed.answer.number != MORE {
             return fed;
         }

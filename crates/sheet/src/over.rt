@@ -19,7 +19,7 @@ pub fn over_cells<F: Fn(usize) -> u16>(n: usize, f: F) -> u32
         for i in start..n.min(start + BLOCK) {
             few += f(i);
         }
-        sum += few as u32;
+        sum += u32::from(few);
     }
     sum
 }

@@ -47,6 +47,7 @@ impl Iterator for Stores<'_> {
     ghost remaining = { λ s. at_most (length s.bytes.stream.now - (s.bytes.p + 7) / 8 - s.at) };
 
     fn next(&mut self) -> Option<Range<usize>> {
+        // Kept: no plainer: bytes that store nothing are passed over, one or five a turn, up to the next that does.
         while self.at < self.bytes.len() {
             if self.chain.place.awaited == AT_DATA {
                 let left = Window {

@@ -13,6 +13,7 @@ pub struct Walked {
     pub stored: usize,
     pub low: usize,
     pub top: usize,
+    // Kept: no plainer: this says something of all stores, and no value waits for it.
     pub ordered: bool,
 }
 
