@@ -11,7 +11,7 @@ BEGIN, END = "<!-- counted by tests/docs/count.py -->\n", "<!-- end of count -->
 CALLS = ["chain", "cells", "awaited", "machine", "saved", "closing", "hunt", "grammar", "writer", "reader", "lister", "tidy", "salvage", "eprom", "sheet"]
 REST = ["at6000", "listing", "demands"]
 PARTS = [
-    ("no promise: contracts of private functions", ["chain/ByRow", "machine/Block", "closing/Put", "tidy/InOrder", "tidy/Steps", "salvage/Steps", "eprom/Steps", "sheet/Steps"]),
+    ("no promise: contracts of private functions", ["chain/ByRow", "machine/Block", "closing/Put", "saved/Reads", "tidy/InOrder", "tidy/Steps", "salvage/Steps", "eprom/Steps", "sheet/Steps"]),
     ("demand 1", ["chain/WellFormed", "chain/Table", "chain/Bytes", "demands/Demand1", "demands/Formed", "demands/Table", "demands/ByteTable", "demands/ListTable", "demands/FetchTable", "demands/SheetTable"]),
     ("demands 2 and 3", ["grammar/Fits", "demands/Loader", "demands/Demand2", "demands/Files", "demands/Second", "demands/Demand3", "demands/Ours"]),
     ("wish 4", ["demands/WherePreamble"]),
