@@ -1,5 +1,5 @@
 #!/bin/sh
-# run.sh ARCHIVE [ROUNDS]: lists the archive's functions and fails where the step is one of them; then races the archive against safe
+# run.sh ARCHIVE [ROUNDS]: lists the archive's functions and fails where the machine's step is one of them; then races the archive against safe
 # Rust and memcpy. On x86-64 the archive itself is raced. On another processor an emulator's times would say nothing, and here.sh makes
 # the library for that processor from the same module.
 set -eu
@@ -10,7 +10,7 @@ trap 'rm -rf "$room"' EXIT
 
 echo "functions of the archive:"
 nm --defined-only "$archive" | sed -n 's/^[0-9a-f]* [tT] /  /p'
-if nm --defined-only "$archive" | grep -q ' [tT] .*::step$'; then
+if nm --defined-only "$archive" | grep -q ' [tT] machine::.*::step$'; then
     echo "the step is a function of its own: every framing byte pays a call" >&2
     exit 1
 fi
