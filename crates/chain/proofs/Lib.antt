@@ -18,3 +18,4 @@ pub mod Only
 pub mod Output
 pub mod Over
 pub mod PassedUp
+pub mod OneNumber
