@@ -56,16 +56,18 @@ impl TryFrom<u8> for Kind {
     }
 }
 
-// The size of a kind, 0 for an unknown one.
+// The size of a kind, 0 for an unknown one. From the last row to the first and to the end, whatever is found: with no way out in
+// between the compiler needs no table in memory.
 pub fn size_of(kind: u8) -> u16
     ensures { result ≡ size_of kind }
 {
-    for (known, size) in KINDS.iter().zip(&SIZES) {
-        if *known == kind {
-            return *size;
+    let mut size: u16 = 0;
+    for i in (0..KINDS.len()).rev() {
+        if KINDS[i] == kind {
+            size = SIZES[i];
         }
     }
-    0
+    size
 }
 
 // The size of the run's device.
