@@ -82,11 +82,21 @@ pub fn byte_at(s: &[u8], at: Bit) -> u8
 }
 
 // Whether eight bits of s stand at p and make the preamble.
+// Kept: speed: `byte_at` tests for the slice's end what the first line has tested; by it a sheet of streams without a preamble takes a fifth more.
 fn begins(s: &[u8], p: usize) -> bool
     requires { p < nowhere }
     ensures { result ≡ begins_at s.now p }
 {
-    (p + 7) / 8 < s.len() && byte_at(s, Bit::of(p)) == PREAMBLE
+    if s.len() <= (p + 7) / 8 {
+        return false;
+    }
+    let at = Bit::of(p);
+    let low = s[at.byte];
+    let k = at.bit % 8;
+    if k == 0 {
+        return low == PREAMBLE;
+    }
+    joined(low, s[at.byte + 1], k) == PREAMBLE
 }
 
 // The first position.
