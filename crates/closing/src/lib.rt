@@ -21,14 +21,14 @@ use chain::{Chain, Place, Written};
 // The lead, then the present cells of the window, then the tail. Memory is lent anew: the compiler then passes the slice itself, not
 // its address.
 fn put_window(
-    c: Chain,
+    c: &Chain,
     mem: &[u8],
     lead: &[u8],
     w: Window,
     out: &mut [u8],
 ) -> Result<usize, Refusal>
     requires { length lead.now ≤ 1 }
-    ensures { Put (lead.now ++ window c mem.now w.start w.end) out.old (told result) out.new }
+    ensures { Put (lead.now ++ window c.now mem.now w.start w.end) out.old (told result) out.new }
 {
     let ks = c.kinds;
     let at = base_of(ks, c.place.device) + usize::from(w.start);
@@ -40,8 +40,8 @@ fn put_window(
 }
 
 // In a check 08 alone, refused with 7; in a write the rest of a stream without windows.
-fn put_after_preamble(c: Chain, out: &mut [u8]) -> Result<usize, Refusal>
-    ensures { Put (after_preamble c) out.old (told result) out.new }
+fn put_after_preamble(c: &Chain, out: &mut [u8]) -> Result<usize, Refusal>
+    ensures { Put (after_preamble c.now) out.old (told result) out.new }
 {
     if c.place.check == CHECKING {
         return put(out, &[0x08]);
@@ -51,10 +51,10 @@ fn put_after_preamble(c: Chain, out: &mut [u8]) -> Result<usize, Refusal>
     put(out, &[stored, 0x00, 0x00, 0x00, NO_WINDOWS, POSTAMBLE])
 }
 
-fn put_after_start(c: Chain, out: &mut [u8]) -> Result<usize, Refusal>
-    ensures { Put (after_start c) out.old (told result) out.new }
+fn put_after_start(c: &Chain, out: &mut [u8]) -> Result<usize, Refusal>
+    ensures { Put (after_start c.now) out.old (told result) out.new }
 {
-    if with_low(c.place.start, 0xff) < size_here(c) {
+    if with_low(c.place.start, 0xff) < size_here(*c) {
         return put(out, &[0xff, 0xff, 0xff]);
     }
     put(out, &[0xff])
@@ -67,15 +67,15 @@ fn ends_below(p: Place) -> bool
     (p.end / 256 == p.start / 256) & (p.start % 256 != 0)
 }
 
-fn put_after_end(c: Chain, mem: &[u8], out: &mut [u8]) -> Result<usize, Refusal>
-    ensures { Put (after_end c mem.now) out.old (told result) out.new }
+fn put_after_end(c: &Chain, mem: &[u8], out: &mut [u8]) -> Result<usize, Refusal>
+    ensures { Put (after_end c.now mem.now) out.old (told result) out.new }
 {
     let p = c.place;
     if ends_below(p) {
         return put(out, &[0x00]);
     }
     let most = with_low(p.end, 0xff);
-    if (most < p.start) | !(most < size_here(c)) {
+    if (most < p.start) | !(most < size_here(*c)) {
         return put(out, &[0xff]);
     }
     let w = Window {
@@ -87,14 +87,10 @@ fn put_after_end(c: Chain, mem: &[u8], out: &mut [u8]) -> Result<usize, Refusal>
 
 // The row of the awaited byte.
 #[tactic(auto, unfolding(crate::specs::Closing::closing_bytes))]
-fn put_row(c: Chain, mem: &[u8], out: &mut [u8]) -> Result<usize, Refusal>
-    ensures { Put (closing_bytes c mem.now) out.old (told result) out.new }
+fn put_row(c: &Chain, mem: &[u8], out: &mut [u8]) -> Result<usize, Refusal>
+    ensures { Put (closing_bytes c.now mem.now) out.old (told result) out.new }
 {
     let p = c.place;
-    let to_come = Window {
-        start: p.next,
-        end: p.end,
-    };
     let a = p.awaited;
     // Kept: C interface: the awaited byte is a number of Place, and a caller in C may lend any.
     match a {
@@ -109,7 +105,13 @@ fn put_row(c: Chain, mem: &[u8], out: &mut [u8]) -> Result<usize, Refusal>
         AT_START | AT_END => put(out, &[0xff, 0xff]),
         AT_START_LOW => put_after_start(c, out),
         AT_END_LOW => put_after_end(c, mem, out),
-        AT_DATA => put_window(c, mem, &[], to_come, out),
+        AT_DATA => {
+            let to_come = Window {
+                start: p.next,
+                end: p.end,
+            };
+            put_window(c, mem, &[], to_come, out)
+        }
         _ => Ok(0),
     }
 }
@@ -118,13 +120,13 @@ fn put_row(c: Chain, mem: &[u8], out: &mut [u8]) -> Result<usize, Refusal>
 pub fn closing(c: Chain, mem: &[u8], out: &mut [u8]) -> Written
     ensures { Closing c mem.now out.old result out.new }
 {
-    put_closing(c, mem, out).into()
+    put_closing(&c, mem, out).into()
 }
 
 // How many bytes close the open run.
-fn put_closing(c: Chain, mem: &[u8], out: &mut [u8]) -> Result<usize, Refusal>
-    ensures { Closing c mem.now out.old (told result) out.new }
+fn put_closing(c: &Chain, mem: &[u8], out: &mut [u8]) -> Result<usize, Refusal>
+    ensures { Closing c.now mem.now out.old (told result) out.new }
 {
-    open(c, mem.len())?;
+    open(*c, mem.len())?;
     put_row(c, mem, out)
 }

@@ -10,6 +10,6 @@ use Rattle.closing.proofs.put_row.Goals as goal
 pub returns-in-0 : goal.returns-in-0
 unfolding closing_bytes
 returns-in-0 c =
-    let a = c.args.c.place.awaited in
+    let a = c.args.c.now.place.awaited in
     by_test (eqb a at_preamble) (λ t. rw t c.put-in-0.ensures)
     (λ f. rw (f, eq-eqb a at_second (omega (arith, eqb-false a at_preamble f))) c.put-in-0.ensures)
