@@ -10,11 +10,12 @@ use Rattle.machine.specs.Calls.{fed_of, refuse_of}
 use Rattle.eprom.specs.declared.Fetcher.{Fetcher}
 use Rattle.eprom.specs.declared.Fetched.{Fetched}
 use Rattle.eprom.specs.Counter.{counts, last_count}
-use Rattle.eprom.specs.Kept.{external_of, jumps, astray}
+use Rattle.eprom.specs.Kept.{with_counter, external_of, jumps, astray}
 use Rattle.eprom.specs.Fetch.{Fetching}
 use Rattle.eprom.specs.Calls.{lent, fetched_of}
-use Rattle.eprom.specs.Steps.{took_all, kept_by, went_to, ended_to, Going, Block, Over}
+use Rattle.eprom.specs.Steps.{further_of, took_all, settled, kept_by, went_to, ended_to, Going, Block, Over}
 use Rattle.eprom.proofs.Own.{run_never_past}
+use Rattle.eprom.proofs.Settled.{settled-jumps, no_jump_right}
 use Rattle.eprom.proofs.Blocks.{Took, took, took_lost, took-going}
 
 -- an answer of the machine's and a fetcher, as one answer
@@ -88,3 +89,28 @@ module _ (c : Chain) (m : List ℕ) (f : Fetcher) (t : List ℕ) (b : Block c f 
         let o = ne_eqb (run_of (run c m more) t).number more h in
         rw (block.law, counted, o)
         (record { ends = h; value = rw (o, ne_eqb (run_of (run c m more) t).number past_eprom (run_never_past t c m)); memory = refl })
+
+  -- and where nothing more is kept and no jump is left
+  module _ (s : settled c.place f ≡ true) (low : c.place.taken < 2 ^ 32) where
+    none_left : jumps c.place f ≡ false
+    none_left = settled-jumps c.place f s
+
+    pub right : astray c.place f ≡ false
+    right = no_jump_right c.place f none_left
+
+    pub rest_low : (n right low ≤ length t) × (n right low ≤ counts)
+    rest_low = used_low right low
+
+    pub rest_all : (fed right low).answer.number ≡ more
+        → lent (fed right low).chain (run_of (run c m more) t).memory (with_counter f (further_of c.place.mode f.counter (n right low))) ≡ all
+    unfolding kept_by
+    rest_all h = rw (s, none_left) at (went_all right low h)
+
+    pub rest_going : (fed right low).answer.number ≡ more → Going (fed right low).chain (with_counter f (further_of c.place.mode f.counter (n right low)))
+    unfolding kept_by
+    rest_going h = rw (s, none_left) at (went_going right low h)
+
+    pub rest-ended : ((fed right low).answer.number ≡ more → ⊥)
+        → Over all (joined_of (fed right low) (ended_to c.place f (n right low) f)) (run_of (run c m more) t).memory
+    unfolding kept_by
+    rest-ended h = rw s at (ended-all right low h)

@@ -1,5 +1,6 @@
 -- A fetch block by block: what each turn of the loop leaves is what the bytes one by one leave. Assumes nothing.
-use Rattle.std.proofs.Common.{Result, Ok, Err, MatchResult, OnOk, ◌≡◌, ℕ, zero, suc, ◌+◌, ◌-◌, ◌<◌, ◌≤◌, List, length, refl, ap, ◌∙◌, arith}
+use Rattle.std.proofs.Common.{Result, Ok, Err, MatchResult, OnOk, Bool, true, false, ◌&&◌, inl, ◌≡◌, ℕ, zero, suc, ◌+◌, ◌-◌, ◌<◌, ◌≤◌, List, length, refl, ap, ◌∙◌, arith}
+use mathlib.Core.Bool.{false≢true}
 use Rattle.chain.specs.declared.Chain.{Chain}
 use Rattle.chain.specs.Paper.{more, past_eprom}
 use Rattle.machine.specs.Run.{run}
@@ -7,9 +8,10 @@ use Rattle.eprom.specs.declared.Fetcher.{Fetcher}
 use Rattle.eprom.specs.declared.Fetched.{Fetched}
 use Rattle.eprom.specs.Fetch.{Fetching, fetching, fetch_all}
 use Rattle.eprom.specs.Calls.{lent, answers, fetched_of}
-use Rattle.eprom.specs.Steps.{took_all, Reads, Block, Over, Stretch}
+use Rattle.eprom.specs.Steps.{took_all, settled, down_from, Going, Reads, Block, Over, Stretch}
 use Rattle.eprom.proofs.Turns.{fetch_over, comes_past}
 use Rattle.eprom.proofs.Blocks.{took-fetched}
+use Rattle.eprom.proofs.ReadBytes.{down-length}
 
 -- fewer bytes are in reach too
 pub reach_less : {mode at have many n : ℕ} (k : ℕ) → k ≤ n → Stretch mode at have many n → Stretch mode at have many k
@@ -64,3 +66,16 @@ module _ (c : Chain) (m : List ℕ) (f : Fetcher) (e bs : List ℕ) (b : Block c
   -- a block that ends the run ends it
   pub next_over : (q : Fetched) (w : List ℕ) → Over (took_all (lent c m f) bs) q w → (left : ℕ) → length bs ≤ left → Over (fetch_all e left (lent c m f)) q w
   next_over q w o left h = rw (next_fetched left h, fetch_over e (took_all (lent c m f) bs) o.ends (left - length bs)) o
+
+-- ---- in mode 2, with no jump left and nothing more to keep
+
+-- the test of the code, as two
+pub rest_is : (down kept : Bool) → (down && kept) ≡ true → (down ≡ true) × (kept ≡ true)
+rest_is true kept h = (refl, h)
+rest_is false kept h = absurd (false≢true h)
+
+-- any bytes before the counter wraps are a block
+pub rest_block : (c : Chain) (f : Fetcher) (e : List ℕ) (k : ℕ) → Going c f → settled c.place f ≡ true → 0 < k → k ≤ f.counter + 1 → Block c f (down_from e f.counter k)
+rest_block c f e k g s some l =
+    let z = down-length e f.counter k in
+    record { going = g; free = inl s; some = omega (arith, z, some); most = omega (arith, z, l, g.counter) }

@@ -1,12 +1,12 @@
 // A board that boots: an open run that fetches, its fetcher, and how many bytes are left to fetch. A block of bytes is fed to the machine at once.
-ghost use Rattle.std.specs.Prelude.{◌≡◌, ◌≤◌, ◌==◌, MatchResult};
+ghost use Rattle.std.specs.Prelude.{◌≡◌, ◌≤◌, ◌==◌, MatchResult, true};
 ghost use Rattle.chain.specs.Paper.{downward, B0};
 ghost use Rattle.chain.specs.Refusal.{number_of};
 ghost use Rattle.chain.specs.Rules.{pick};
 ghost use Rattle.eprom.specs.Counter.{counts, home_of};
 ghost use Rattle.eprom.specs.Kept.{fetcher_at};
 ghost use Rattle.eprom.specs.Calls.{lent, answers};
-ghost use Rattle.eprom.specs.Steps.{Going, Block, Over, took_all, further_of};
+ghost use Rattle.eprom.specs.Steps.{Going, Block, Over, took_all, settled, further_of};
 
 use crate::counter::{COUNTS, counts_down, home};
 use crate::kept::is_astray;
@@ -89,6 +89,29 @@ impl Board {
         self.fetcher = Fetcher {
             counter: jump.unwrap_or(later),
             ..g
+        };
+        Ok(())
+    }
+    // The same where nothing more is kept and no jump is left: of the fetcher the counter alone goes on.
+    // Kept: speed: a way of its own, since a block in mode 2 is short: by `block` one window of 16,381 takes 23,094 instructions where it takes 21,386 so.
+    #[inline(always)]
+    pub fn block_of_rest(&mut self, mem: &mut [u8], t: &[u8]) -> Result<(), Fetched>
+        requires block { Block self.old.chain self.old.fetcher t.now }
+        requires settled { settled self.old.chain.place self.old.fetcher ≡ true }
+        ensures { MatchResult result (λ _. (self.new.left ≡ self.old.left) × (lent self.new.chain mem.new self.new.fetcher ≡ took_all (lent self.old.chain mem.old self.old.fetcher) t.now)) (λ r. Over (took_all (lent self.old.chain mem.old self.old.fetcher) t.now) r mem.new) }
+    {
+        let r = taken(self.chain, mem, t);
+        let n = r.answer.taken.wrapping_sub(self.chain.place.taken);
+        let later = self.further(n);
+        // Kept: C interface: the number is a field of `Answer`.
+        if r.answer.number != MORE {
+            let h = self.ended(later, self.fetcher);
+            return Err(Fetched::fed(r, h));
+        }
+        self.chain = r.chain;
+        self.fetcher = Fetcher {
+            counter: later,
+            ..self.fetcher
         };
         Ok(())
     }

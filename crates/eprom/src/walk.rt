@@ -1,6 +1,6 @@
 // Bytes fetched block by block, as far as the run, the counter and the EPROM go. In mode 2 they stand the other way round in the EPROM, and are turned round in a
 // room before they are fed.
-ghost use Rattle.std.specs.Prelude.{◌≡◌, ◌+◌, ◌<◌, ◌≤◌, ◌&&◌, length, ◌==◌, MatchResult, OnOk};
+ghost use Rattle.std.specs.Prelude.{◌≡◌, ◌+◌, ◌<◌, ◌≤◌, ◌&&◌, length, ◌==◌, MatchResult, OnOk, true};
 ghost use Rattle.chain.specs.Paper.{downward};
 ghost use Rattle.eprom.specs.Calls.{lent, fetched_of};
 ghost use Rattle.eprom.specs.Fetch.{fetch_all};
@@ -92,8 +92,28 @@ impl Board {
         self.counts_down() && self.is_settled()
     }
 
+    // Takes one block of such a rest, as long as the room.
+    #[inline(always)]
+    fn rest(&mut self, mem: &mut [u8], room: &mut [u8], e: &[u8]) -> Result<(), Fetched>
+        requires left { 0 < self.old.left }
+        requires room { 0 < length room.old }
+        requires rest { (self.old.chain.place.mode == downward && settled self.old.chain.place self.old.fetcher) ≡ true }
+        ensures { MatchResult result (λ _. (self.new.left < self.old.left) × (fetch_all e.now self.old.left (lent self.old.chain mem.old self.old.fetcher) ≡ fetch_all e.now self.new.left (lent self.new.chain mem.new self.new.fetcher))) (λ r. Over (fetch_all e.now self.old.left (lent self.old.chain mem.old self.old.fetcher)) r mem.new) }
+    {
+        let at = self.fetcher.counter as usize;
+        if e.len() <= at {
+            return Err(self.stays(Refusal::PastEprom));
+        }
+        let n = self.left.min(room.len()).min(at + 1);
+        let t = turn(room, e, at, n);
+        self.left -= n;
+        self.block_of_rest(mem, t)
+    }
+
     // Takes blocks, in mode 2 turned round in a room for N bytes, which is filled with zeros once: all that are left, but that a small room is given up where a large
     // one serves.
+    // Never laid into the fetch: with both rooms there it takes 2,296 bytes of stack, and 2,024 so.
+    #[inline(never)]
     fn blocks<const N: usize>(&mut self, mem: &mut [u8], e: &[u8]) -> Result<(), Fetched>
         requires some { 0 < N }
         requires most { N ≤ TURNED }
@@ -103,10 +123,13 @@ impl Board {
         let mut room = [0u8; N];
         // Kept: no plainer: a turn takes as many bytes as stand together, so that there is no count of turns before.
         while 0 < self.left {
-            if N < TURNED && self.is_rest() {
+            if !self.is_rest() {
+                self.step(mem, &mut room, e)?;
+            } else if N < TURNED {
                 return Ok(());
+            } else {
+                self.rest(mem, &mut room, e)?;
             }
-            self.step(mem, &mut room, e)?;
         }
         Ok(())
     }
