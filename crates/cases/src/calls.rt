@@ -129,7 +129,7 @@ fn list(to: &impl Print, call: Call, s: &[u8]) -> io::Result<()> {
 }
 
 // What goes from call to call: the state, and the fetcher that a board has beside it.
-#[derive(Drop)]
+#[derive(Clone, Copy)]
 pub struct Board {
     chain: Chain,
     fetcher: Fetcher,

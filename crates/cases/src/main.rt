@@ -60,8 +60,8 @@ impl Bench {
         }
     }
 
-    // Makes a call with its arguments, of which the last may be missing. The line has its letter and the answers, then what it wrote into the output,
-    // then what it changed in memory; where it is a call that fills memory or the EPROM, that comes before.
+    // Makes a call with its arguments, of which the last may be missing. Where it is a call that fills memory or the EPROM, that comes before its line;
+    // at the end stands what it changed in memory.
     fn make(&mut self, from: &mut impl Read, to: &impl Print, call: Call) -> io::Result<()> {
         let Bench { board, mem, eprom } = self;
         let mem = &mut mem[..call.mem.min(CELLS)];
@@ -75,22 +75,16 @@ impl Bench {
         }
         let mut old = [0; CELLS];
         cells::copy(&mut old, mem);
-        let blank = [LENT; ROOM];
-        let mut out = [LENT; ROOM];
-        let out = &mut out[..call.out.min(ROOM)];
-        to.write_all(&[call.letter])?;
-        board.make(to, call, args, mem, eprom, out)?;
-        let written = Changes {
-            mark: '>',
-            bytes: out,
-            old: &blank,
-        };
+        board.answer(to, call, args, mem, eprom)?;
+        if &*mem == &old[..mem.len()] {
+            return println!(to; "");
+        }
         let stored = Changes {
             mark: '@',
             bytes: mem,
             old: &old,
         };
-        println!(to; "{written}{stored}")
+        println!(to; "{stored}")
     }
 
     // Nothing says that the input ends, so the calls are counted down, from more than any script has.
@@ -103,6 +97,39 @@ impl Bench {
         }
         Ok(())
     }
+}
+
+impl Board {
+    // The line's letter and the answers, then what the call wrote into the output.
+    // Kept: speed: apart from `make`, and what is printed apart from both: in one function the blocks are filled twice for each call, and the program takes half as long again.
+    fn answer(
+        &mut self,
+        to: &impl Print,
+        call: Call,
+        args: &[u8],
+        mem: &mut [u8],
+        eprom: &[u8],
+    ) -> io::Result<()> {
+        let mut out = [LENT; ROOM];
+        let out = &mut out[..call.out.min(ROOM)];
+        to.write_all(&[call.letter])?;
+        self.make(to, call, args, mem, eprom, out)?;
+        written(to, out)
+    }
+}
+
+fn written(to: &impl Print, out: &[u8]) -> io::Result<()> {
+    // most calls write nothing, which is told sooner so than by printing
+    if out.iter().all(|b| *b == LENT) {
+        return Ok(());
+    }
+    let blank = [LENT; ROOM];
+    let written = Changes {
+        mark: '>',
+        bytes: out,
+        old: &blank,
+    };
+    print!(to; "{written}")
 }
 
 fn main(rt: HostRuntime) -> io::Result<()> {

@@ -53,7 +53,8 @@ fn alone(letter: char, ns: &[u32]) -> Text
     text
 }
 
-// A line for each window, from 1.
+// A line for each window, from 1. Never laid into its caller, like what follows: a text is 4,615 bytes, and all laid into one function it has one for each step.
+#[inline(never)]
 fn windows(starts: &[u16], ends: &[u16]) -> Text
     requires pairs { length ends.now ≡ length starts.now }
     requires few { length starts.now ≤ most_windows }
@@ -68,6 +69,7 @@ fn windows(starts: &[u16], ends: &[u16]) -> Text
 }
 
 // What the lister answers for the bytes that it is given, and the windows' lines.
+#[inline(never)]
 fn listed(kind: u8, mode: u8, given: &[u8]) -> (Listed, Text)
     ensures number { result.0.number ≡ (lister_stop kind mode given.now).number }
     ensures taken { result.0.taken ≡ (lister_stop kind mode given.now).taken }
@@ -84,6 +86,7 @@ fn listed(kind: u8, mode: u8, given: &[u8]) -> (Listed, Text)
 }
 
 // Modes 3 and 4: the lister is given the hunted bytes, and the last line ends with where they began and the bits left. Kind is tested before the hunt.
+#[inline(never)]
 fn hunted(kind: u8, mode: u8, s: &[u8]) -> Result<Text, Refusal>
     requires hunts { serial mode ≡ true }
     requires fits { length s.now ≤ most_input }
