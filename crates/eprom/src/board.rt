@@ -92,8 +92,9 @@ impl Board {
         };
         Ok(())
     }
+
     // The same where nothing more is kept and no jump is left: of the fetcher the counter alone goes on.
-    // Kept: speed: a way of its own, since a block in mode 2 is short: by `block` one window of 16,381 takes 23,094 instructions where it takes 21,386 so.
+    // Kept: speed: a way of its own, since a block in mode 2 is short: by `block` one window of 16,381 takes 23,094 instructions where it takes 21,187 so.
     #[inline(always)]
     pub fn block_of_rest(&mut self, mem: &mut [u8], t: &[u8]) -> Result<(), Fetched>
         requires block { Block self.old.chain self.old.fetcher t.now }

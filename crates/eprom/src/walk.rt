@@ -112,7 +112,7 @@ impl Board {
 
     // Takes blocks, in mode 2 turned round in a room for N bytes, which is filled with zeros once: all that are left, but that a small room is given up where a large
     // one serves.
-    // Never laid into the fetch: with both rooms there it takes 2,296 bytes of stack, and 2,024 so.
+    // Never laid into the fetch: with both rooms there it takes 2,296 bytes of stack, and 2,020 so.
     #[inline(never)]
     fn blocks<const N: usize>(&mut self, mem: &mut [u8], e: &[u8]) -> Result<(), Fetched>
         requires some { 0 < N }
